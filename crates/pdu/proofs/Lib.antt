@@ -1,0 +1,4 @@
+pub mod Division
+pub mod TenBytes
+pub mod Coefficients
+pub mod Composed
