@@ -1,5 +1,5 @@
 -- What a text and a record stand for.
-use mathlib.Core.Bool.{Bool, cond}
+use mathlib.Core.Bool.{cond}
 use mathlib.Core.List.{List, [], _∷_}
 use Prim.Native.Nat.{ℕ}
 use lib.Dec.{leb}
@@ -8,7 +8,6 @@ use Rattle.std.specs.declared.option.Option.{Option}
 use Rattle.std.specs.declared.option.Option.the-variants.{Some, None}
 use Rattle.std.specs.declared.result.Result.{Result}
 use Rattle.std.specs.declared.result.Result.the-variants.{Ok, Err}
-use Rattle.std.specs.shelf.Text.{sameBytes}
 use Rattle.pdu.specs.declared.refusal.Refusal.{Refusal}
 use Rattle.pdu.specs.declared.refusal.Refusal.the-variants.{TextLength}
 use Rattle.family.specs.declared.text.Text.{Text}
@@ -27,10 +26,7 @@ textView (Err e) = Err e
 abbrev pub textTaken : List ℕ → Result (List ℕ) Refusal
 textTaken bs = cond (leb (length bs) 381) (Ok bs) (Err TextLength)
 
--- Two texts are the same bytes.
-abbrev pub sameText : List ℕ → List ℕ → Bool
-sameText a b = sameBytes a b
-
+-- A record by its head and the bytes of its text.
 abbrev pub recordView : {T : Type 0} → Record T → RecordOf T
 recordView r = record { head = r .head; text = bytesOf (r .text) }
 

@@ -26,15 +26,15 @@ pub trait Family {
 
     // Why the record is refused, or none where it is lawful.
     fn refusal(&self, record: &Record<Self::Head>) -> Option<Refusal>
-        ensures { λ r. ⌜ r ≡ meaning .refusal (now (self .entry)) (recordView (now (record .entry))) ⌝ };
+        ensures { λ r. ⌜ r ≡ meaning .refusal (now (self .entry)) (recordView (now («record» .entry))) ⌝ };
 
     // How many frames the record has.
     fn frame_count(&self, record: &Record<Self::Head>) -> Result<usize, Refusal>
-        ensures { λ r. ⌜ r ≡ countDue meaning (now (self .entry)) (recordView (now (record .entry))) ⌝ };
+        ensures { λ r. ⌜ r ≡ countDue meaning (now (self .entry)) (recordView (now («record» .entry))) ⌝ };
 
     // Frame i of the record's cut under a sequence number.
     fn frame(&self, record: &Record<Self::Head>, sequence: u8, i: usize) -> Result<Payload, Refusal>
-        ensures { λ r. ⌜ r ≡ frameDue meaning (now (self .entry)) (recordView (now (record .entry))) sequence i ⌝ };
+        ensures { λ r. ⌜ r ≡ frameDue meaning (now (self .entry)) (recordView (now («record» .entry))) sequence i ⌝ };
 
     fn is_lawful(&self, frame: Payload) -> bool
         ensures { λ r. ⌜ r ≡ meaning .lawful (now (self .entry)) frame ⌝ };

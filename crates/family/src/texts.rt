@@ -1,6 +1,7 @@
 // Texts made, lent and compared.
 ghost use mathlib.Core.Path.{_≡_};
-ghost use Rattle.family.specs.Texts.{bytesOf, textView, textTaken, sameText};
+ghost use Rattle.std.specs.shelf.Text.{sameBytes};
+ghost use Rattle.family.specs.Texts.{bytesOf, textView, textTaken};
 use crate::text::Text;
 use pdu::refusal::Refusal;
 
@@ -30,7 +31,7 @@ impl Text {
 
     // Whether both texts are the same bytes.
     pub fn same(&self, other: &Text) -> bool
-        ensures { λ r. ⌜ r ≡ sameText (bytesOf (now (self .entry))) (bytesOf (now (other .entry))) ⌝ }
+        ensures { λ r. ⌜ r ≡ sameBytes (bytesOf (now (self .entry))) (bytesOf (now (other .entry))) ⌝ }
     {
         self.as_slice() == other.as_slice()
     }
