@@ -87,8 +87,8 @@ pub station-packed : (p : ℕ) → p < 2 ^ 32 → inRange (stationInRange (stati
 station-packed p h =
     let s = stationOf p in
     let all : stationInRange s ≡ true = and-from (ltb (s .country .0) 1024 && ltb (s .reserved) 8) (ltb (s .facility) (2 ^ 19))
-        (and-from (ltb (s .country .0) 1024) (ltb (s .reserved) 8) (lt-ltb (s .country .0) 1024 (omega arith)) (lt-ltb (s .reserved) 8 (omega arith)))
-        (lt-ltb (s .facility) (2 ^ 19) (omega arith)) in
+    (and-from (ltb (s .country .0) 1024) (ltb (s .reserved) 8) (lt-ltb (s .country .0) 1024 (omega arith)) (lt-ltb (s .reserved) 8 (omega arith)))
+    (lt-ltb (s .facility) (2 ^ 19) (omega arith)) in
     let same : stationPacked s ≡ p = omega arith in
     in-range (stationInRange s) (stationPacked s) all ∙ ap Ok same
 
@@ -161,10 +161,11 @@ shortName-again s h =
     let c = bits .2 in
     let d = bits .3 in
     let same : shortNameWith n (s .extension) ≡ s =
-        λ i. record { characters = (record { 0 = a i }, record { 0 = b i }, record { 0 = c i }, record { 0 = d i }); extension = s .extension } in
-    (below,
-     then-ok (extensionOf (field 2 0 n)) (s .extension) (λ e. inRange (shortNameInRange (shortNameWith n e)) (shortNameWith n e)) (ap extensionOf e ∙ extension-again (s .extension))
-     ∙ ap (λ t. inRange (shortNameInRange t) t) same ∙ in-range (shortNameInRange s) s h)
+    λ i. record { characters = (record { 0 = a i }, record { 0 = b i }, record { 0 = c i }, record { 0 = d i }); extension = s .extension } in (
+      below,
+      then-ok (extensionOf (field 2 0 n)) (s .extension) (λ e. inRange (shortNameInRange (shortNameWith n e)) (shortNameWith n e)) (ap extensionOf e ∙ extension-again (s .extension))
+          ∙ ap (λ t. inRange (shortNameInRange t) t) same ∙ in-range (shortNameInRange s) s h,
+    )
 
 pub shortName-packed : (p : ℕ) (s : ShortName) → p < 2 ^ 22 → shortNameOf p ≡ Ok s → inRange (shortNameInRange s) (shortNamePacked s) ≡ Ok p
 shortName-packed p s h e =
@@ -196,10 +197,11 @@ half-again (Latitude h) e =
     let angle : angleOf n ≡ h .angle = λ i. record { 0 = (ap (λ m. signed (2 ^ 21) (field 22 4 m)) shape ∙ ap (signed (2 ^ 21)) (bits .1) ∙ signed-again (2 ^ 21) (h .angle .0) fits) i } in
     let upper : field 4 0 n ≡ h .«altitude_upper» = ap (field 4 0) shape ∙ bits .2 in
     let top : field 1 26 n ≡ 1 = ap (field 1 26) shape ∙ bits .0 in
-    let below = bits .3 in
-    (omega arith,
-     cond-true (eqb (field 1 26 n) 1) (Latitude (record { angle = angleOf n; «altitude_upper» = field 4 0 n })) (Longitude (record { angle = angleOf n; «altitude_lower» = field 4 0 n })) (eq-eqb (field 1 26 n) 1 top)
-     ∙ (λ i. Latitude (record { angle = angle i; «altitude_upper» = upper i })))
+    let below = bits .3 in (
+      omega arith,
+      cond-true (eqb (field 1 26 n) 1) (Latitude (record { angle = angleOf n; «altitude_upper» = field 4 0 n })) (Longitude (record { angle = angleOf n; «altitude_lower» = field 4 0 n })) (eq-eqb (field 1 26 n) 1 top)
+          ∙ (λ i. Latitude (record { angle = angle i; «altitude_upper» = upper i })),
+    )
 half-again (Longitude h) e =
     let parts = and-parts (leb (natAbs (h .angle .0)) longitudeLimit) (ltb (h .«altitude_lower») 16) e in
     let fits = latitude-fits (h .angle .0) longitudeLimit (omega arith) (parts .0) in
@@ -211,10 +213,11 @@ half-again (Longitude h) e =
     let angle : angleOf n ≡ h .angle = λ i. record { 0 = (ap (λ m. signed (2 ^ 21) (field 22 4 m)) shape ∙ ap (signed (2 ^ 21)) (bits .1) ∙ signed-again (2 ^ 21) (h .angle .0) fits) i } in
     let lower : field 4 0 n ≡ h .«altitude_lower» = ap (field 4 0) shape ∙ bits .2 in
     let top : field 1 26 n ≡ 0 = ap (field 1 26) shape ∙ bits .0 in
-    let below = bits .3 in
-    (omega arith,
-     cond-false (eqb (field 1 26 n) 1) (Latitude (record { angle = angleOf n; «altitude_upper» = field 4 0 n })) (Longitude (record { angle = angleOf n; «altitude_lower» = field 4 0 n })) (ap (λ m. eqb m 1) top)
-     ∙ (λ i. Longitude (record { angle = angle i; «altitude_lower» = lower i })))
+    let below = bits .3 in (
+      omega arith,
+      cond-false (eqb (field 1 26 n) 1) (Latitude (record { angle = angleOf n; «altitude_upper» = field 4 0 n })) (Longitude (record { angle = angleOf n; «altitude_lower» = field 4 0 n })) (ap (λ m. eqb m 1) top)
+          ∙ (λ i. Longitude (record { angle = angle i; «altitude_lower» = lower i })),
+    )
 
 half-same : (p : ℕ) → p < 2 ^ 27 → halfPacked (halfOf p) ≡ p
 half-same p h =
@@ -270,18 +273,20 @@ service-again (Audio a) t h =
     let program = bits .2 in
     let program-type = bits .3 in
     let reserved = bits .4 in
-    let sound = bits .5 in
-    (bits .6,
-     cond-true (eqb (field 2 25 n) 0) (Ok (Audio (audioOf n))) (cond (eqb (field 2 25 n) 1) (Ok (Data (field 25 0 n))) (Err OutOfRange)) (eq-eqb (field 2 25 n) 0 (bits .0))
-     ∙ (λ i. Ok (Audio (record { restricted = restricted i; program = program i; «program_type» = program-type i; reserved = reserved i; sound = sound i }))))
+    let sound = bits .5 in (
+      bits .6,
+      cond-true (eqb (field 2 25 n) 0) (Ok (Audio (audioOf n))) (cond (eqb (field 2 25 n) 1) (Ok (Data (field 25 0 n))) (Err OutOfRange)) (eq-eqb (field 2 25 n) 0 (bits .0))
+          ∙ (λ i. Ok (Audio (record { restricted = restricted i; program = program i; «program_type» = program-type i; reserved = reserved i; sound = sound i }))),
+    )
 service-again (Data d) t h =
     let l = ltb-true d (2 ^ 25) h in
     let n = servicePacked (Data d) in
     let category : field 2 25 n ≡ 1 = omega arith in
-    let same : field 25 0 n ≡ d = omega arith in
-    (omega arith,
-     cond-false (eqb (field 2 25 n) 0) (Ok (Audio (audioOf n))) (cond (eqb (field 2 25 n) 1) (Ok (Data (field 25 0 n))) (Err OutOfRange)) (ap (λ m. eqb m 0) category)
-     ∙ cond-true (eqb (field 2 25 n) 1) (Ok (Data (field 25 0 n))) (Err OutOfRange) (eq-eqb (field 2 25 n) 1 category) ∙ ap (λ m. Ok (Data m)) same)
+    let same : field 25 0 n ≡ d = omega arith in (
+      omega arith,
+      cond-false (eqb (field 2 25 n) 0) (Ok (Audio (audioOf n))) (cond (eqb (field 2 25 n) 1) (Ok (Data (field 25 0 n))) (Err OutOfRange)) (ap (λ m. eqb m 0) category)
+          ∙ cond-true (eqb (field 2 25 n) 1) (Ok (Data (field 25 0 n))) (Err OutOfRange) (eq-eqb (field 2 25 n) 1 category) ∙ ap (λ m. Ok (Data m)) same,
+    )
 
 audio-same : (p : ℕ) → p < 2 ^ 27 → field 2 25 p ≡ 0 → (((field 1 24 p * 64 + field 6 18 p) * 256 + field 8 10 p) * 32 + field 5 5 p) * 32 + field 5 0 p ≡ p
 audio-same p h e =
@@ -301,20 +306,20 @@ service-packed p s h e =
     let same : Audio (audioOf p) ≡ s = cc in
     let a = audioOf p in
     let all = and-from (ltb (a .program) 64 && ltb (a .reserved) 32) (ltb (a .sound) 32)
-        (and-from (ltb (a .program) 64) (ltb (a .reserved) 32) (lt-ltb (a .program) 64 (omega arith)) (lt-ltb (a .reserved) 32 (omega arith))) (lt-ltb (a .sound) 32 (omega arith)) in
+    (and-from (ltb (a .program) 64) (ltb (a .reserved) 32) (lt-ltb (a .program) 64 (omega arith)) (lt-ltb (a .reserved) 32 (omega arith))) (lt-ltb (a .sound) 32 (omega arith)) in
     let restricted = bit-flag (field 1 24 p) (omega arith) in
     ap (λ x. inRange (serviceInRange x) (servicePacked x)) (sym same) ∙ in-range (serviceInRange (Audio a)) (servicePacked (Audio a)) all
     ∙ ap Ok (ap (λ m. (((m * 64 + field 6 18 p) * 256 + field 8 10 p) * 32 + field 5 5 p) * 32 + field 5 0 p) restricted ∙ audio-same p h z))
     (λ (nz : field 2 25 p ≡ 0 → ⊥). ⊎-elim
     (λ (o : field 2 25 p ≡ 1).
     let q : serviceOf p ≡ Ok (Data (field 25 0 p)) = cond-false (eqb (field 2 25 p) 0) audio (cond (eqb (field 2 25 p) 1) unread (Err OutOfRange)) (ne-eqb (field 2 25 p) 0 nz)
-        ∙ cond-true (eqb (field 2 25 p) 1) unread (Err OutOfRange) (eq-eqb (field 2 25 p) 1 o) in
+    ∙ cond-true (eqb (field 2 25 p) 1) unread (Err OutOfRange) (eq-eqb (field 2 25 p) 1 o) in
     let same : Data (field 25 0 p) ≡ s = cc in
     let whole : servicePacked (Data (field 25 0 p)) ≡ p = omega arith in
     ap (λ x. inRange (serviceInRange x) (servicePacked x)) (sym same) ∙ in-range (ltb (field 25 0 p) (2 ^ 25)) (servicePacked (Data (field 25 0 p))) (lt-ltb (field 25 0 p) (2 ^ 25) (omega arith)) ∙ ap Ok whole)
     (λ (no : field 2 25 p ≡ 1 → ⊥).
     let q : serviceOf p ≡ Err OutOfRange = cond-false (eqb (field 2 25 p) 0) audio (cond (eqb (field 2 25 p) 1) unread (Err OutOfRange)) (ne-eqb (field 2 25 p) 0 nz)
-        ∙ cond-false (eqb (field 2 25 p) 1) unread (Err OutOfRange) (ne-eqb (field 2 25 p) 1 no) in
+    ∙ cond-false (eqb (field 2 25 p) 1) unread (Err OutOfRange) (ne-eqb (field 2 25 p) 1 no) in
     absurd (let z : _≡_ {A = ℕ} 0 1 = cc in omega arith))
     (cases-eq (field 2 25 p) 1))
     (cases-eq (field 2 25 p) 0)
@@ -377,9 +382,11 @@ parameter-again (Local l) t h =
     let offset = ap (signed 1024) (bits .1) ∙ signed-again 1024 (l .offset .0) (parts .0) in
     let schedule = bits .2 in
     let practised = ap flag (bits .3) ∙ flag-bit (l .«practised_locally») in
-    let effect = ap flag (bits .4) ∙ flag-bit (l .«in_effect») in
-    (bits .5, parameter-three (parameterPacked (Local l)) (bits .0)
-     ∙ (λ i. Local (record { offset = record { 0 = offset i }; schedule = schedule i; «practised_locally» = practised i; «in_effect» = effect i })))
+    let effect = ap flag (bits .4) ∙ flag-bit (l .«in_effect») in (
+      bits .5,
+      parameter-three (parameterPacked (Local l)) (bits .0)
+          ∙ (λ i. Local (record { offset = record { 0 = offset i }; schedule = schedule i; «practised_locally» = practised i; «in_effect» = effect i })),
+    )
 parameter-again (Unread j v) t h =
     let outer = and-parts (ltb j 64 && not (eqb j 0)) (not (eqb j 3)) h in
     let inner = and-parts (ltb j 64) (not (eqb j 0)) (outer .0) in
@@ -406,7 +413,7 @@ parameter-packed p h = ⊎-elim
     let d = bit-flag (field 1 1 p) (omega arith) in
     let e = bit-flag (field 1 0 p) (omega arith) in
     let whole : parameterPacked (Local l) ≡ p =
-        (λ i. 3 * 65536 + ((o i * 8 + field 3 2 p) * 2 + d i) * 2 + e i) ∙ local-same p h t in
+    (λ i. 3 * 65536 + ((o i * 8 + field 3 2 p) * 2 + d i) * 2 + e i) ∙ local-same p h t in
     ap (λ x. inRange (parameterInRange x) (parameterPacked x)) (parameter-three p t)
     ∙ in-range (parameterInRange (Local l)) (parameterPacked (Local l)) (and-from (fitsSigned 1024 (l .offset .0)) (ltb (l .schedule) 8) (signed-fits 1024 (field 11 5 p) (omega arith)) (lt-ltb (l .schedule) 8 (omega arith)))
     ∙ ap Ok whole)

@@ -3,7 +3,9 @@ ghost use mathlib.Core.Path.{_≡_};
 ghost use mathlib.Core.Bool.{true};
 ghost use Rattle.message.specs.Location.{angleOf, halfOf, latitudeInRange, longitudeInRange, halfInRange, halfPacked, locationOf};
 ghost use Rattle.message.specs.Results.{inRange};
-use crate::bits::{field_of, to_signed, to_unsigned};
+use crate::bits::field_of;
+use crate::bits::to_signed;
+use crate::bits::to_unsigned;
 use pdu::refusal::Refusal;
 
 // An angle in units of 1/8192 degree; north and east are positive.
@@ -36,6 +38,7 @@ pub enum LocationHalf {
 
 // 90 and 180 degrees.
 const LATITUDE_LIMIT: u32 = 737_280;
+
 const LONGITUDE_LIMIT: u32 = 1_474_560;
 
 impl Angle {
@@ -117,7 +120,10 @@ impl LocationHalf {
 }
 
 // Latitude, longitude and altitude together, from both halves.
-pub fn location(latitude: LatitudeHalf, longitude: LongitudeHalf) -> Result<(Angle, Angle, Altitude), Refusal>
+pub fn location(
+    latitude: LatitudeHalf,
+    longitude: LongitudeHalf,
+) -> Result<(Angle, Angle, Altitude), Refusal>
     ensures { λ r. ⌜ r ≡ locationOf latitude longitude ⌝ }
 {
     if latitude.is_in_range() && longitude.is_in_range() {

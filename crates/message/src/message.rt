@@ -10,7 +10,8 @@ use crate::parameter::Parameter;
 use crate::place::Place;
 use crate::service::Service;
 use crate::size::payload_size;
-use crate::station::{ShortName, StationId};
+use crate::station::ShortName;
+use crate::station::StationId;
 use pdu::refusal::Refusal;
 
 #[derive(Clone, Copy)]

@@ -5,7 +5,10 @@ ghost use Prim.Native.Nat.{ℕ, _<_, _^_};
 ghost use Rattle.std.specs.declared.result.Result.the-variants.{Ok};
 ghost use Rattle.message.specs.Parameter.{leapOf, localOf, parameterOf, parameterInRange, parameterPacked};
 ghost use Rattle.message.specs.Results.{inRange};
-use crate::bits::{field_of, fits_signed, to_signed, to_unsigned};
+use crate::bits::field_of;
+use crate::bits::fits_signed;
+use crate::bits::to_signed;
+use crate::bits::to_unsigned;
 use pdu::refusal::Refusal;
 
 #[derive(Clone, Copy)]
@@ -111,7 +114,8 @@ impl Parameter {
     {
         match self {
             Parameter::Leap(leap) => {
-                fits_signed(i32::from(leap.pending), 128) && fits_signed(i32::from(leap.current), 128)
+                fits_signed(i32::from(leap.pending), 128)
+                    && fits_signed(i32::from(leap.current), 128)
             }
             Parameter::Local(local) => {
                 fits_signed(i32::from(local.offset.0), 1024) && local.schedule < 8

@@ -187,3 +187,7 @@ composed-parts f p e = ⊎-elim
 -- Fields that were put together to a PDU are its fields.
 pub parsed-again : (f : Fields) (p : Pdu) → composed f ≡ Ok p → parsed p ≡ Ok f
 parsed-again f p e = let parts = composed-parts f p e in ap parsed (sym (parts .1)) ∙ read-again f (parts .0)
+
+-- Fields that make a PDU have an area of 58 bits.
+pub area-small : (f : Fields) {p : Pdu} → composed f ≡ Ok p → f .area < 2 ^ 58
+area-small f {p} e = fit-parts f (composed-parts f p e .0) .1

@@ -25,6 +25,7 @@ impl Fields {
     pub fn parse(pdu: Pdu) -> Result<Fields, Refusal>
         ensures value { λ r. ⌜ r ≡ parsed pdu ⌝ }
         ensures written_again { λ r. ⌜ ((f : Fields) → r ≡ Ok f → composed f ≡ Ok pdu) ⌝ }
+        ensures area_small { λ r. ⌜ ((f : Fields) → r ≡ Ok f → f .area < 2 ^ 58) ⌝ }
     {
         let n = pdu.number();
         if (n % 4096) as u16 != pdu.check() {

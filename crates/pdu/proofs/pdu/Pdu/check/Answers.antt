@@ -19,9 +19,11 @@ loop-i-again c =
     let bs = c .args .self .bytes in
     let i = c .loop-i .i in
     let told = c .bring-down-remainder .ensures in
-    let bit : c .bit .result ≡ coefficient bs (i - 1) = c .bit .ensures ∙ coefficient-is bs (i - 1) (omega arith) in
-    (ap (λ r. divided 12 6155 r (downFrom (coefficient bs) (i - 1))) (told .value ∙ ap (λ b. lowered 12 6155 (c .loop-i .remainder * 2 + b)) bit)
-    ∙ sym (next (coefficient bs) (c .loop-i .remainder) i (omega arith)) ∙ c .loop-i .inv .0, told .small)
+    let bit : c .bit .result ≡ coefficient bs (i - 1) = c .bit .ensures ∙ coefficient-is bs (i - 1) (omega arith) in (
+      ap (λ r. divided 12 6155 r (downFrom (coefficient bs) (i - 1))) (told .value ∙ ap (λ b. lowered 12 6155 (c .loop-i .remainder * 2 + b)) bit)
+          ∙ sym (next (coefficient bs) (c .loop-i .remainder) i (omega arith)) ∙ c .loop-i .inv .0,
+      told .small,
+    )
 
 pub returns : need.returns
 unfolding downFrom divided

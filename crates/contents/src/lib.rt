@@ -1,0 +1,6 @@
+// What a PDU says: its contents, read from ten bytes and written to them.
+mod area;
+pub mod codec;
+pub mod contents;
+pub mod reading;
+pub mod writing;
