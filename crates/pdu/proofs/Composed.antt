@@ -17,7 +17,7 @@ use Rattle.pdu.specs.declared.fields.Fields.{Fields}
 use Rattle.pdu.specs.Bytes.{TenBytes, numberOf, bytesOf, bits}
 use Rattle.pdu.specs.Check.{bitAt, coefficient, coefficients, downFrom, generator, checkOf}
 use Rattle.pdu.specs.Division.{remainder}
-use Rattle.pdu.specs.Fields.{flag, bitOf, fieldsOf, parsed, fit, uncheckedNumber, checked, composed}
+use Rattle.pdu.specs.Fields.{flag, bitOf, fieldsOf, tested, parsed, fit, uncheckedNumber, checked, composed}
 use Rattle.pdu.proofs.Coefficients.{agree, binary, coefficient-is}
 use Rattle.pdu.proofs.Division.{remainder-low}
 use Rattle.pdu.proofs.TenBytes.{number-small, number-bytes, bytes-number}
@@ -107,12 +107,36 @@ fields-again f k h s =
     let l′ = ap flag l ∙ flag-bit (f .«time_locked») in
     λ i. record { extension = e′ i; number = m i; area = a i; reserved = r′ i; «time_locked» = l′ i; pair = q i }
 
+-- a PDU passes where its check and its type are right
+passed : (n check : ℕ) → n % 4096 ≡ check → bits 0 1 n ≡ 0 → tested n check ≡ Ok tt
+passed n check a b =
+    cond-true (eqb (n % 4096) check) (cond (eqb (bits 0 1 n) 0) (Ok tt) (Err TypeNotZero)) (Err CheckDiffers) (eq-eqb (n % 4096) check a)
+    ∙ cond-true (eqb (bits 0 1 n) 0) (Ok tt) (Err TypeNotZero) (eq-eqb (bits 0 1 n) 0 b)
+
+passed-parts : (n check : ℕ) → tested n check ≡ Ok tt → (n % 4096 ≡ check) × (bits 0 1 n ≡ 0)
+passed-parts n check e =
+    let good = eqb (n % 4096) check in
+    let zero-type = eqb (bits 0 1 n) 0 in
+    let inner = cond zero-type (Ok tt) (Err TypeNotZero) in
+    ⊎-elim
+    (λ (g : good ≡ true). ⊎-elim
+    (λ (t : zero-type ≡ true). (eqb-true (n % 4096) check g, eqb-true (bits 0 1 n) 0 t))
+    (λ (t : zero-type ≡ false).
+    let whole : Err TypeNotZero ≡ Ok tt = sym (cond-false zero-type (Ok tt) (Err TypeNotZero) t) ∙ sym (cond-true good inner (Err CheckDiffers) g) ∙ e in
+    let z : _≡_ {A = ℕ} 0 1 = cc in absurd (omega arith))
+    (cases-bool zero-type))
+    (λ (g : good ≡ false).
+    let whole : Err CheckDiffers ≡ Ok tt = sym (cond-false good inner (Err CheckDiffers) g) ∙ e in
+    let z : _≡_ {A = ℕ} 0 1 = cc in absurd (omega arith))
+    (cases-bool good)
+
+fields-parts : (r : Result (Unit {0}) Refusal) (f g : Fields) → _≡_ {A = Result Fields Refusal} (elim r [ Ok _ ↦ Ok f | Err e ↦ Err e ]) (Ok g) → (r ≡ Ok tt) × (f ≡ g)
+fields-parts (Ok tt) f g e = (refl, cc)
+fields-parts (Err x) f g e = absurd (let z : _≡_ {A = ℕ} 0 1 = cc in omega arith)
+
 -- what parsing gives where the check and the type are right
-pub parsed-right : (p : Pdu) → bits 68 12 (numberOf (p .bytes)) ≡ checkOf (p .bytes) → bits 0 1 (numberOf (p .bytes)) ≡ 0 → parsed p ≡ Ok (fieldsOf (numberOf (p .bytes)))
-parsed-right p a b =
-    let n = numberOf (p .bytes) in
-    cond-true (eqb (bits 68 12 n) (checkOf (p .bytes))) (cond (eqb (bits 0 1 n) 0) (Ok (fieldsOf n)) (Err TypeNotZero)) (Err CheckDiffers) (eq-eqb (bits 68 12 n) (checkOf (p .bytes)) a)
-    ∙ cond-true (eqb (bits 0 1 n) 0) (Ok (fieldsOf n)) (Err TypeNotZero) (eq-eqb (bits 0 1 n) 0 b)
+pub parsed-right : (p : Pdu) → tested (numberOf (p .bytes)) (checkOf (p .bytes)) ≡ Ok tt → parsed p ≡ Ok (fieldsOf (numberOf (p .bytes)))
+parsed-right p e = ap (λ r. elim r [ Ok _ ↦ Ok (fieldsOf (numberOf (p .bytes))) | Err x ↦ Err x ]) e
 
 pub composed-right : (f : Fields) → fit f ≡ true → composed f ≡ Ok (checked (uncheckedNumber f))
 composed-right f h = cond-true (fit f) (Ok (checked (uncheckedNumber f))) (Err OutOfRange) h
@@ -128,35 +152,22 @@ read-again f h =
     let k = checkOf (bytesOf n) in
     let ks = check-small (bytesOf n) in
     let N : numberOf (bytesOf (n + k)) ≡ n + k = number-bytes (n + k) (omega arith) in
-    let low : bits 68 12 (n + k) ≡ k = omega arith in
+    let low : (n + k) % 4096 ≡ k = omega arith in
     let top : bits 0 1 (n + k) ≡ 0 = omega arith in
-    parsed-right (checked n) (ap (bits 68 12) N ∙ low ∙ sym (check-kept n k (omega arith) ks)) (ap (bits 0 1) N ∙ top)
+    parsed-right (checked n) (ap₂ tested N (check-kept n k (omega arith) ks) ∙ passed (n + k) k low top)
     ∙ ap Ok (ap fieldsOf N ∙ fields-again f k h ks)
 
 -- the check and the type of a PDU that is parsed
 parsed-parts : (p : Pdu) (f : Fields) → parsed p ≡ Ok f
-    → (bits 68 12 (numberOf (p .bytes)) ≡ checkOf (p .bytes)) × (bits 0 1 (numberOf (p .bytes)) ≡ 0) × (fieldsOf (numberOf (p .bytes)) ≡ f)
+    → (numberOf (p .bytes) % 4096 ≡ checkOf (p .bytes)) × (bits 0 1 (numberOf (p .bytes)) ≡ 0) × (fieldsOf (numberOf (p .bytes)) ≡ f)
 parsed-parts p f e =
     let n = numberOf (p .bytes) in
-    let good = eqb (bits 68 12 n) (checkOf (p .bytes)) in
-    let zero-type = eqb (bits 0 1 n) 0 in
-    let inner = cond zero-type (Ok (fieldsOf n)) (Err TypeNotZero) in
-    ⊎-elim
-    (λ (g : good ≡ true). ⊎-elim
-    (λ (t : zero-type ≡ true).
-    let whole : Ok (fieldsOf n) ≡ Ok f = sym (cond-true zero-type (Ok (fieldsOf n)) (Err TypeNotZero) t) ∙ sym (cond-true good inner (Err CheckDiffers) g) ∙ e in
-    (eqb-true (bits 68 12 n) (checkOf (p .bytes)) g, eqb-true (bits 0 1 n) 0 t, cc))
-    (λ (t : zero-type ≡ false).
-    let whole : Err TypeNotZero ≡ Ok f = sym (cond-false zero-type (Ok (fieldsOf n)) (Err TypeNotZero) t) ∙ sym (cond-true good inner (Err CheckDiffers) g) ∙ e in
-    let z : _≡_ {A = ℕ} 0 1 = cc in absurd (omega arith))
-    (cases-bool zero-type))
-    (λ (g : good ≡ false).
-    let whole : Err CheckDiffers ≡ Ok f = sym (cond-false good inner (Err CheckDiffers) g) ∙ e in
-    let z : _≡_ {A = ℕ} 0 1 = cc in absurd (omega arith))
-    (cases-bool good)
+    let whole = fields-parts (tested n (checkOf (p .bytes))) (fieldsOf n) f e in
+    let right = passed-parts n (checkOf (p .bytes)) (whole .0) in
+    (right .0, right .1, whole .1)
 
 -- the number put together from the fields of a number, but for its check
-unchecked-again : (n : ℕ) → n < 2 ^ 80 → bits 0 1 n ≡ 0 → uncheckedNumber (fieldsOf n) + bits 68 12 n ≡ n
+unchecked-again : (n : ℕ) → n < 2 ^ 80 → bits 0 1 n ≡ 0 → uncheckedNumber (fieldsOf n) + n % 4096 ≡ n
 unchecked-again n h t =
     let e = bit-flag (bits 1 1 n) (omega arith) in
     let r = bit-flag (bits 64 1 n) (omega arith) in
@@ -169,7 +180,7 @@ written-again p ten f e =
     let parts = parsed-parts p f e in
     let n = numberOf (p .bytes) in
     let small = number-small (p .bytes) ten in
-    let k = bits 68 12 n in
+    let k = n % 4096 in
     let u = uncheckedNumber (fieldsOf n) in
     let whole : u + k ≡ n = unchecked-again n small (parts .1) in
     let check : checkOf (bytesOf u) ≡ k =

@@ -1,7 +1,7 @@
 -- The fields of a PDU: bit 0 is the type, bit 1 the extension, bits 2 to 5 the first message's number, bits 6 to 63 the message area, bit 64 reserved, bit 65 time locked, bits 66 and 67 a pair, bits 68 to 79 the check.
 use mathlib.Core.Bool.{Bool, cond, _&&_}
 use mathlib.Core.List.{List}
-use Prim.Native.Nat.{ℕ, _+_, _*_, _^_}
+use Prim.Native.Nat.{ℕ, _+_, _*_, _%_, _^_}
 use lib.Dec.{eqb, ltb}
 use Rattle.std.specs.declared.result.Result.{Result}
 use Rattle.std.specs.declared.result.Result.the-variants.{Ok, Err}
@@ -30,12 +30,13 @@ fieldsOf n = record {
   pair = bits 66 2 n;
 }
 
--- What a PDU says between its type and its check: the check is tested first, then the type.
+-- The check is tested first, then the type.
+abbrev pub tested : ℕ → ℕ → Result (Unit {0}) Refusal
+tested n check = cond (eqb (n % 4096) check) (cond (eqb (bits 0 1 n) 0) (Ok tt) (Err TypeNotZero)) (Err CheckDiffers)
+
+-- What a PDU says between its type and its check.
 abbrev pub parsed : Pdu → Result Fields Refusal
-parsed p =
-    cond (eqb (bits 68 12 (numberOf (p .bytes))) (checkOf (p .bytes)))
-    (cond (eqb (bits 0 1 (numberOf (p .bytes))) 0) (Ok (fieldsOf (numberOf (p .bytes)))) (Err TypeNotZero))
-    (Err CheckDiffers)
+parsed p = elim (tested (numberOf (p .bytes)) (checkOf (p .bytes))) [ Ok _ ↦ Ok (fieldsOf (numberOf (p .bytes))) | Err e ↦ Err e ]
 
 -- Each field fits its bits.
 abbrev pub fit : Fields → Bool

@@ -1,7 +1,7 @@
 // The check of a PDU: the remainder of its polynomial.
 ghost use mathlib.Core.Path.{_≡_};
 ghost use Prim.Native.Nat.{ℕ, _+_, _*_, _<_};
-ghost use Rattle.pdu.specs.Check.{bitAt, checkOf, coefficients, generator};
+ghost use Rattle.pdu.specs.Check.{coefficient, coefficients, checkOf, generator};
 ghost use Rattle.pdu.specs.Division.{lowered, OnlyRemainder};
 use crate::pdu::Pdu;
 
@@ -9,10 +9,11 @@ use crate::pdu::Pdu;
 const GENERATOR: u16 = 0x180B;
 
 impl Pdu {
-    // Bit i, counted from the highest bit of byte 0.
-    fn bit(&self, i: usize) -> u8
-        requires { ⌜ i < 80 ⌝ }
-        ensures { λ b. ⌜ b ≡ bitAt (now (self .entry) .bytes) i ⌝ }
+    // The coefficient of X^i: bit i, counted from the highest bit of byte 0.
+    fn coefficient(&self, i: usize) -> u8
+        requires { ⌜ i < 68 ⌝ }
+        ensures value { λ c. ⌜ c ≡ coefficient (now (self .entry) .bytes) i ⌝ }
+        ensures small { λ c. ⌜ c < 2 ⌝ }
     {
         (self.bytes[i / 8] >> (7 - i % 8)) % 2
     }
@@ -25,7 +26,7 @@ impl Pdu {
         let mut remainder: u16 = 0;
         // Bits 68 to 79 count as zero, and leading zeros leave no remainder.
         for i in (0..68usize).rev() {
-            remainder = bring_down(remainder, self.bit(i));
+            remainder = bring_down(remainder, self.coefficient(i));
         }
         remainder
     }

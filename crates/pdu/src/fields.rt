@@ -3,7 +3,7 @@ ghost use mathlib.Core.Path.{_≡_};
 ghost use mathlib.Core.Bool.{true};
 ghost use Prim.Native.Nat.{ℕ, _+_, _*_, _%_, _<_, _^_};
 ghost use Rattle.std.specs.declared.result.Result.the-variants.{Ok};
-ghost use Rattle.pdu.specs.Fields.{parsed, composed, fit, bitOf, uncheckedNumber};
+ghost use Rattle.pdu.specs.Fields.{fieldsOf, tested, parsed, composed, fit, bitOf, uncheckedNumber};
 use crate::pdu::Pdu;
 use crate::refusal::Refusal;
 
@@ -28,20 +28,22 @@ impl Fields {
         ensures area_small { λ r. ⌜ ((f : Fields) → r ≡ Ok f → f .area < 2 ^ 58) ⌝ }
     {
         let n = pdu.number();
-        if (n % 4096) as u16 != pdu.check() {
-            return Err(Refusal::CheckDiffers);
-        }
-        if (n >> 79) % 2 != 0 {
-            return Err(Refusal::TypeNotZero);
-        }
-        Ok(Fields {
+        test(n, pdu.check())?;
+        Ok(Fields::of_number(n))
+    }
+
+    // The fields of 80 bits.
+    fn of_number(n: u128) -> Fields
+        ensures { λ r. ⌜ r ≡ fieldsOf n ⌝ }
+    {
+        Fields {
             extension: (n >> 78) % 2 == 1,
             number: ((n >> 74) % 16) as u8,
             area: ((n >> 16) % (1 << 58)) as u64,
             reserved: (n >> 15) % 2 == 1,
             time_locked: (n >> 14) % 2 == 1,
             pair: ((n >> 12) % 4) as u8,
-        })
+        }
     }
 
     // The PDU with these fields, type 0 and its check.
@@ -76,4 +78,17 @@ impl Fields {
         ((head * (1 << 58) + u128::from(self.area)) * 4 + flags) * (1 << 14)
             + u128::from(self.pair) * (1 << 12)
     }
+}
+
+// Tests 80 bits: first whether they carry this check, then whether their type is 0.
+fn test(n: u128, check: u16) -> Result<(), Refusal>
+    ensures { λ r. ⌜ r ≡ tested n check ⌝ }
+{
+    if n % 4096 != u128::from(check) {
+        return Err(Refusal::CheckDiffers);
+    }
+    if (n >> 79) % 2 != 0 {
+        return Err(Refusal::TypeNotZero);
+    }
+    Ok(())
 }

@@ -1,14 +1,11 @@
 use mathlib.Core.Path.{_≡_, refl, sym, ap, subst, _∙_}
 use Prim.Native.Nat.{ℕ, suc, _+_, _-_, _*_, _<_}
 use native.Mathlib.Omega.{arith}
-use Rattle.pdu.specs.Check.{bitAt, coefficient, coefficients, generator, downFrom, checkOf}
+use Rattle.pdu.specs.Check.{coefficient, coefficients, generator, downFrom, checkOf}
 use Rattle.pdu.specs.Division.{divided, lowered, OnlyRemainder}
-use Rattle.pdu.proofs.Coefficients.{binary, next, coefficient-is, bit-small}
+use Rattle.pdu.proofs.Coefficients.{binary, next}
 use Rattle.pdu.proofs.Division.{only}
 use Rattle.pdu.proofs.pdu.Pdu.check.Needs as need
-
-pub bring-down-remainder-requires : need.bring-down-remainder-requires
-bring-down-remainder-requires c κs = (c .loop-i .inv .1, subst (λ (b : ℕ). b < 2) (sym (c .bit .ensures)) (bit-small (c .args .self .bytes) (c .loop-i .i - 1)))
 
 pub loop-i-holds : need.loop-i-holds
 unfolding downFrom divided
@@ -18,9 +15,8 @@ pub loop-i-again : need.loop-i-again
 loop-i-again c =
     let bs = c .args .self .bytes in
     let i = c .loop-i .i in
-    let told = c .bring-down-remainder .ensures in
-    let bit : c .bit .result ≡ coefficient bs (i - 1) = c .bit .ensures ∙ coefficient-is bs (i - 1) (omega arith) in (
-      ap (λ r. divided 12 6155 r (downFrom (coefficient bs) (i - 1))) (told .value ∙ ap (λ b. lowered 12 6155 (c .loop-i .remainder * 2 + b)) bit)
+    let told = c .bring-down-remainder .ensures in (
+      ap (λ r. divided 12 6155 r (downFrom (coefficient bs) (i - 1))) (told .value ∙ ap (λ b. lowered 12 6155 (c .loop-i .remainder * 2 + b)) (c .coefficient .ensures .value))
           ∙ sym (next (coefficient bs) (c .loop-i .remainder) i (omega arith)) ∙ c .loop-i .inv .0,
       told .small,
     )

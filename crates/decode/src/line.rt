@@ -1,0 +1,60 @@
+// A line of hexadecimal digits.
+use std::alloc::AllocError;
+use std::alloc::Global;
+use std::fmt;
+
+// What is wrong with a line.
+#[derive(Drop)]
+pub enum LineError {
+    // The column from 1, and what stands there.
+    NoDigit(usize, char),
+    OddDigits(usize),
+}
+
+pub impl fmt::Display for LineError as LineErrorDisplay {
+    fn fmt<W: fmt::Write>(&self, f: &mut fmt::Formatter<W>) -> fmt::Result {
+        match self {
+            LineError::NoDigit(column, found) => {
+                write!(f, "'{found}' in column {column} is no hexadecimal digit")
+            }
+            LineError::OddDigits(count) => {
+                write!(f, "{count} hexadecimal digits do not make whole bytes")
+            }
+        }
+    }
+}
+
+// The bytes that a line spells, two digits each; blanks are passed over.
+pub fn bytes_of(heap: Global, line: &str) -> Result<Result<Vec<u8>, LineError>, AllocError> {
+    let mut bytes = Vec::new(heap);
+    let mut upper: Option<u8> = None;
+    for (i, c) in line.chars().enumerate() {
+        if c.is_whitespace() {
+            continue;
+        }
+        let Some(digit) = digit_of(c) else {
+            return Ok(Err(LineError::NoDigit(i.saturating_add(1), c)));
+        };
+        match upper {
+            None => upper = Some(digit),
+            Some(high) => {
+                bytes.push((high << 4) | digit)?;
+                upper = None;
+            }
+        }
+    }
+    if upper.is_some() {
+        let count = bytes.len().saturating_mul(2).saturating_add(1);
+        return Ok(Err(LineError::OddDigits(count)));
+    }
+    Ok(Ok(bytes))
+}
+
+fn digit_of(c: char) -> Option<u8> {
+    match c {
+        '0'..='9' => Some(c as u8 - b'0'),
+        'a'..='f' => Some(c as u8 - b'a' + 10),
+        'A'..='F' => Some(c as u8 - b'A' + 10),
+        _ => None,
+    }
+}

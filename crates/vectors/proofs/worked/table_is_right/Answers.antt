@@ -1,0 +1,8 @@
+use mathlib.Core.Path.{refl}
+use Rattle.pdu.specs.Check.{downFrom}
+use Rattle.pdu.specs.Division.{divided}
+use Rattle.vectors.proofs.worked.table_is_right.Needs as need
+
+pub returns : need.returns
+unfolding downFrom divided
+returns c = (refl, (refl, (refl, (refl, (refl, (refl, (refl, (refl, (refl, (refl, (refl, tt)))))))))))

@@ -1,0 +1,8 @@
+// The worked bytes, and runs of many cases.
+#[cfg(test)]
+mod messages;
+#[cfg(test)]
+mod pairs;
+#[cfg(test)]
+mod reading;
+pub mod worked;
