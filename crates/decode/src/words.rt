@@ -1,5 +1,8 @@
 // What a PDU says, in words and numbers.
+use alert::alert::Alert;
+use alert::family::AlertFamily;
 use contents::contents::Contents;
+use family::family::Family;
 use message::location::LocationHalf;
 use message::message::Message;
 use message::parameter::LocalTime;
@@ -10,18 +13,28 @@ use message::station::CallSignExtension;
 use message::station::Character;
 use message::station::ShortName;
 use message::station::StationId;
+use name::name::Name;
+use name::name::NameFamily;
+use pdu::refusal::RefusalDisplay;
+use station_message::message::StationMessageFamily;
+use station_message::message::StationMessage;
 use std::fmt;
 
 #[derive(Drop)]
-pub struct Described(pub Contents);
+pub struct Described {
+    pub contents: Contents,
+    // The family of the station's alerts.
+    pub alerts: Alert,
+}
 
 pub impl fmt::Display for Described as DescribedDisplay {
     fn fmt<W: fmt::Write>(&self, f: &mut fmt::Formatter<W>) -> fmt::Result {
-        let contents = self.0;
-        message(contents.first, f)?;
+        let contents = self.contents;
+        let alerts = self.alerts;
+        message(alerts, contents.first, f)?;
         if let Some(second) = contents.second {
             write!(f, "; ")?;
-            message(second, f)?;
+            message(alerts, second, f)?;
         }
         if contents.time_locked {
             write!(f, "; time locked")?;
@@ -37,11 +50,11 @@ pub impl fmt::Display for Described as DescribedDisplay {
     }
 }
 
-fn message<W: fmt::Write>(said: Message, f: &mut fmt::Formatter<W>) -> fmt::Result {
+fn message<W: fmt::Write>(alerts: Alert, said: Message, f: &mut fmt::Formatter<W>) -> fmt::Result {
     match said {
         Message::StationId(id) => station(id, f),
         Message::ShortName(name) => short_name(name, f),
-        Message::Frame(place, payload) => frame(place, payload, f),
+        Message::Frame(place, payload) => frame(alerts, place, payload, f),
         Message::Location(half) => location(half, f),
         Message::Service(offered) => service(offered, f),
         Message::Parameter(told) => parameter(told, f),
@@ -89,29 +102,85 @@ fn character<W: fmt::Write>(code: Character, f: &mut fmt::Formatter<W>) -> fmt::
     }
 }
 
-// A frame's number and sequence number stand at other bits at each place.
-fn frame<W: fmt::Write>(place: Place, payload: u64, f: &mut fmt::Formatter<W>) -> fmt::Result {
+fn frame<W: fmt::Write>(alerts: Alert, place: Place, payload: u64, f: &mut fmt::Formatter<W>) -> fmt::Result {
     match place {
         Place::Name => {
-            let last = (payload >> 55) % 8;
-            let number = (payload >> 52) % 8;
-            let sequence = payload % 8;
-            write!(
-                f,
-                "name, frame {number} of 0 to {last}, sequence number {sequence}"
-            )
+            write!(f, "name, ")?;
+            numbers(&Name, payload, f)?;
+            write!(f, ": ")?;
+            quoted(payload >> 3, 7, 7, f)
         }
         Place::Message => {
-            let number = (payload >> 53) % 32;
-            let sequence = (payload >> 51) % 4;
-            write!(f, "message, frame {number}, sequence number {sequence}")
+            write!(f, "message, ")?;
+            numbers(&StationMessage, payload, f)?;
+            message_frame(payload, f)
         }
         Place::Alert => {
-            let number = (payload >> 52) % 64;
-            let sequence = (payload >> 50) % 4;
-            write!(f, "alert, frame {number}, sequence number {sequence}")
+            write!(f, "alert, ")?;
+            numbers(&alerts, payload, f)?;
+            alert_frame(payload, f)
         }
     }
+}
+
+// The numbers that a frame's family tells of it.
+fn numbers<F: Family, W: fmt::Write>(family: &F, frame: u64, f: &mut fmt::Formatter<W>) -> fmt::Result {
+    match family.number(frame) {
+        Ok(number) => write!(f, "frame {number}")?,
+        Err(refusal) => write!(f, "refused, {refusal}")?,
+    }
+    if let Ok(last) = family.last_number(frame) {
+        write!(f, " of 0 to {last}")?;
+    }
+    match family.sequence(frame) {
+        Ok(sequence) => write!(f, ", sequence number {sequence}"),
+        Err(_) => Ok(()),
+    }
+}
+
+// The head and the bytes of a message's frame: frame 0 begins with number 0 in five bits.
+fn message_frame<W: fmt::Write>(payload: u64, f: &mut fmt::Formatter<W>) -> fmt::Result {
+    if (payload >> 53) % 32 != 0 {
+        write!(f, ": ")?;
+        return quoted(payload, 8, 6, f);
+    }
+    let priority = (payload >> 50) % 2;
+    let encoding = (payload >> 47) % 8;
+    let length = (payload >> 39) % 256;
+    let checksum = (payload >> 32) % 128;
+    write!(f, ", priority {priority}, encoding {encoding}, length {length}, checksum {checksum}: ")?;
+    quoted(payload, 8, 4, f)
+}
+
+// The head and the bytes of an alert's frame: frame 0 begins with number 0 in six bits.
+fn alert_frame<W: fmt::Write>(payload: u64, f: &mut fmt::Formatter<W>) -> fmt::Result {
+    if (payload >> 52) % 64 != 0 {
+        write!(f, ": ")?;
+        return quoted(payload, 8, 6, f);
+    }
+    let encoding = (payload >> 45) % 8;
+    let length = (payload >> 36) % 512;
+    let check = (payload >> 29) % 128;
+    let control = (payload >> 24) % 32;
+    write!(f, ", encoding {encoding}, length {length}, check {check}, control length {control}: ")?;
+    quoted(payload, 8, 3, f)
+}
+
+// The lowest bytes of a payload in quotes; what is no printable ASCII as two hexadecimal digits.
+fn quoted<W: fmt::Write>(payload: u64, bits: u32, count: u32, f: &mut fmt::Formatter<W>) -> fmt::Result {
+    write!(f, "\"")?;
+    for i in (0..count).rev() {
+        let behind = bits.saturating_mul(i);
+        let byte = if behind < 64 { (payload >> behind) % 256 } else { 0 };
+        let byte = if bits < 8 { (byte % 128) as u8 } else { byte as u8 };
+        if 32 <= byte && byte < 127 && byte != 34 && byte != 92 {
+            let shown = char::from(byte);
+            write!(f, "{shown}")?;
+        } else {
+            write!(f, "\\x{byte:02X}")?;
+        }
+    }
+    write!(f, "\"")
 }
 
 fn location<W: fmt::Write>(half: LocationHalf, f: &mut fmt::Formatter<W>) -> fmt::Result {

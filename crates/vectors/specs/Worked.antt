@@ -1,8 +1,10 @@
 -- The worked bytes: what known bytes say, by the definitions that the calls' contracts use.
-use mathlib.Core.Path.{_≡_}
+use mathlib.Core.Path.{_≡_, refl}
 use mathlib.Core.Bool.{Bool, true, false}
 use mathlib.Core.List.{List, [], _∷_}
 use Prim.Native.Nat.{ℕ, _+_, _*_, _/_, _^_}
+use lib.Chars.{codes}
+use lib.Dec.{lit<}
 use lib.IntN.{pos, negsuc}
 use lib.ListN.{getD}
 use Rattle.std.specs.declared.option.Option.the-variants.{Some, None}
@@ -18,19 +20,43 @@ use Rattle.message.specs.declared.parameter.Parameter.the-variants.{Local}
 use Rattle.message.specs.declared.place.Place.the-variants.{Name, Message, Alert}
 use Rattle.message.specs.Location.{locationOf}
 use Rattle.message.specs.Message.{parsed}
+use Rattle.family.specs.Meaning.{RecordOf, Meaning}
+use Rattle.layout.specs.Family.{meaningOf}
+use Rattle.name.specs.Name.{nameLayout}
+use Rattle.station_message.specs.declared.message.MessageHead.{MessageHead}
+use Rattle.station_message.specs.Message.{messageLayout}
+use Rattle.alert.specs.declared.alert.Alert.{Alert as AlertFamily}
+use Rattle.alert.specs.declared.alert.AlertHead.{AlertHead}
+use Rattle.alert.specs.Alert.{alertLayout}
 use Rattle.contents.specs.declared.contents.Contents.{Contents}
 use Rattle.contents.specs.Contents.{readFrom}
 
--- A PDU's bytes with what they say; a message's number and payload with what they say; two halves with the location that they tell.
+-- A PDU's bytes with what they say; a message's number and payload with what they say; two halves with the location that they tell; a record of each family, cut under sequence number 0.
 pub data Entry : Type 0 where
   bytes : List ℕ → Contents → Entry
   payload : ℕ → ℕ → MessageType → Entry
   halves : LatitudeHalf → LongitudeHalf → Angle × Angle × Altitude → Entry
+  nameCut : List ℕ → List ℕ → Entry
+  messageCut : RecordOf MessageHead → List ℕ → Entry
+  alertCut : RecordOf AlertHead → List ℕ → Entry
+
+-- The record is lawful, the frames are its cut, and they join to it.
+pub record Carries {S T : Type 0} (m : Meaning S T) (s : S) (r : RecordOf T) (xs : List ℕ) : Type 0 where
+  pub lawful : m .refusal s r ≡ None
+  pub cut : m .cut s r 0 ≡ xs
+  pub joined : m .joined s xs ≡ Some r
+
+-- The alerts with generator 9.
+abbrev alerts : AlertFamily
+alerts = record { generator = 9; small = lit< tt; odd = refl }
 
 abbrev pub Right : Entry → Type 0
 Right (bytes bs c) = readFrom bs ≡ Ok c
 Right (payload n p m) = parsed n p ≡ Ok m
 Right (halves a b l) = locationOf a b ≡ Ok l
+Right (nameCut t xs) = Carries (meaningOf nameLayout) (record {}) (record { head = tt; text = t }) xs
+Right (messageCut r xs) = Carries (meaningOf messageLayout) (record {}) r xs
+Right (alertCut r xs) = Carries (meaningOf alertLayout) alerts r xs
 
 -- One message, and neither the reserved bit nor a bit of the pair is set.
 abbrev alone : MessageType → Bool → Contents
@@ -89,4 +115,7 @@ table =
     ∷ payload 4 (0x6CCB9EC / 2) (Location (Longitude longitude))
     ∷ halves latitude longitude (record { 0 = pos 321095 }, record { 0 = negsuc 629296 }, record { 0 = 6 })
     ∷ payload 7 (3 * 2 ^ 16 + 1748 * 2 ^ 5) eastern
+    ∷ nameCut (codes "A") (letterA ∷ [])
+    ∷ messageCut (record { head = record { priority = 0; encoding = 0 }; text = codes "TEST" }) (test ∷ [])
+    ∷ alertCut (record { head = record { encoding = 0; «control_length» = 3 }; text = 0 ∷ 0 ∷ 0 ∷ 0 ∷ 0 ∷ 0 ∷ 0 ∷ [] }) (alert0 ∷ alert1 ∷ [])
     ∷ []

@@ -1,8 +1,9 @@
 use mathlib.Core.Path.{refl}
+use Rattle.alert.specs.Division.{textRemainder}
 use Rattle.pdu.specs.Check.{downFrom}
 use Rattle.pdu.specs.Division.{divided}
 use Rattle.vectors.proofs.worked.table_is_right.Needs as need
 
 pub returns : need.returns
-unfolding downFrom divided
-returns c = (refl, (refl, (refl, (refl, (refl, (refl, (refl, (refl, (refl, (refl, (refl, tt)))))))))))
+unfolding downFrom divided textRemainder
+returns c = (refl, (refl, (refl, (refl, (refl, (refl, (refl, (refl, (refl, (refl, (refl, (record { lawful = refl; cut = refl; joined = refl }, (record { lawful = refl; cut = refl; joined = refl }, (record { lawful = refl; cut = refl; joined = refl }, tt))))))))))))))

@@ -1,0 +1,2 @@
+pub mod Dividend
+pub mod Sound

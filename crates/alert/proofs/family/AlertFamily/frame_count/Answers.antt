@@ -1,0 +1,6 @@
+use Rattle.layout.proofs.Records.{count-due}
+use Rattle.alert.specs.Alert.{alertLayout}
+use Rattle.alert.proofs.family.AlertFamily.frame_count.Needs as need
+
+pub returns : need.returns
+returns c = count-due alertLayout (c .args .self .now) (c .args .record .now) (c .pass .result) _ (c .refusal .result) (c .frame-count .result) (c .refusal .ensures) (c .pass .ensures) (c .in-Continue-pass .was tt) (c .frame-count .ensures)

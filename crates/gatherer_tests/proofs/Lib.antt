@@ -1,0 +1,2 @@
+pub mod LawsOfTwo
+pub mod Pair

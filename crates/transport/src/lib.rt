@@ -1,0 +1,2 @@
+// PDUs with the families of a station.
+pub mod transport;
