@@ -1,4 +1,6 @@
 // A line of hexadecimal digits.
+use hexadecimal::Reading;
+use hexadecimal::read_character;
 use std::alloc::AllocError;
 use std::alloc::Global;
 use std::fmt;
@@ -28,18 +30,16 @@ pub impl fmt::Display for LineError as LineErrorDisplay {
 pub fn bytes_of(heap: Global, line: &str) -> Result<Result<Vec<u8>, LineError>, AllocError> {
     let mut bytes = Vec::new(heap);
     let mut upper: Option<u8> = None;
-    for (i, c) in line.chars().enumerate() {
-        if c.is_whitespace() {
-            continue;
-        }
-        let Some(digit) = digit_of(c) else {
-            return Ok(Err(LineError::NoDigit(i.saturating_add(1), c)));
-        };
-        match upper {
-            None => upper = Some(digit),
-            Some(high) => {
-                bytes.push((high << 4) | digit)?;
+    for (i, character) in line.chars().enumerate() {
+        match read_character(upper, character) {
+            Reading::Blank => {}
+            Reading::UpperDigit(digit) => upper = Some(digit),
+            Reading::Byte(byte) => {
+                bytes.push(byte)?;
                 upper = None;
+            }
+            Reading::NoDigit => {
+                return Ok(Err(LineError::NoDigit(i.saturating_add(1), character)));
             }
         }
     }
@@ -48,13 +48,4 @@ pub fn bytes_of(heap: Global, line: &str) -> Result<Result<Vec<u8>, LineError>, 
         return Ok(Err(LineError::OddDigits(count)));
     }
     Ok(Ok(bytes))
-}
-
-fn digit_of(c: char) -> Option<u8> {
-    match c {
-        '0'..='9' => Some(c as u8 - b'0'),
-        'a'..='f' => Some(c as u8 - b'a' + 10),
-        'A'..='F' => Some(c as u8 - b'A' + 10),
-        _ => None,
-    }
 }

@@ -9,8 +9,8 @@ use line::bytes_of;
 use name::name::Name;
 use name::name::NameFamily;
 use pdu::refusal::RefusalDisplay;
-use station_message::message::StationMessageFamily;
 use station_message::message::StationMessage;
+use station_message::message::StationMessageFamily;
 use std::env;
 use std::error::AnyError;
 use transport::transport::read;
@@ -62,7 +62,10 @@ fn say(rt: &LibcRuntime, alerts: &Alert, number: u64, line: &str) -> Result<(), 
         Err(wrong) => eprintln!(rt, "line {number}: {wrong}")?,
         Ok(bytes) => match read(&Name, &StationMessage, alerts, bytes.as_slice()) {
             Ok(contents) => {
-                let described = Described { contents, alerts: *alerts };
+                let described = Described {
+                    contents,
+                    alerts: *alerts,
+                };
                 println!(rt, "{number}: {described}")?
             }
             Err(refusal) => println!(rt, "{number}: refused, {refusal}")?,

@@ -16,8 +16,8 @@ use message::station::StationId;
 use name::name::Name;
 use name::name::NameFamily;
 use pdu::refusal::RefusalDisplay;
-use station_message::message::StationMessageFamily;
 use station_message::message::StationMessage;
+use station_message::message::StationMessageFamily;
 use std::fmt;
 
 #[derive(Drop)]
@@ -102,7 +102,12 @@ fn character<W: fmt::Write>(code: Character, f: &mut fmt::Formatter<W>) -> fmt::
     }
 }
 
-fn frame<W: fmt::Write>(alerts: Alert, place: Place, payload: u64, f: &mut fmt::Formatter<W>) -> fmt::Result {
+fn frame<W: fmt::Write>(
+    alerts: Alert,
+    place: Place,
+    payload: u64,
+    f: &mut fmt::Formatter<W>,
+) -> fmt::Result {
     match place {
         Place::Name => {
             write!(f, "name, ")?;
@@ -124,7 +129,11 @@ fn frame<W: fmt::Write>(alerts: Alert, place: Place, payload: u64, f: &mut fmt::
 }
 
 // The numbers that a frame's family tells of it.
-fn numbers<F: Family, W: fmt::Write>(family: &F, frame: u64, f: &mut fmt::Formatter<W>) -> fmt::Result {
+fn numbers<F: Family, W: fmt::Write>(
+    family: &F,
+    frame: u64,
+    f: &mut fmt::Formatter<W>,
+) -> fmt::Result {
     match family.number(frame) {
         Ok(number) => write!(f, "frame {number}")?,
         Err(refusal) => write!(f, "refused, {refusal}")?,
@@ -148,7 +157,10 @@ fn message_frame<W: fmt::Write>(payload: u64, f: &mut fmt::Formatter<W>) -> fmt:
     let encoding = (payload >> 47) % 8;
     let length = (payload >> 39) % 256;
     let checksum = (payload >> 32) % 128;
-    write!(f, ", priority {priority}, encoding {encoding}, length {length}, checksum {checksum}: ")?;
+    write!(
+        f,
+        ", priority {priority}, encoding {encoding}, length {length}, checksum {checksum}: "
+    )?;
     quoted(payload, 8, 4, f)
 }
 
@@ -162,17 +174,33 @@ fn alert_frame<W: fmt::Write>(payload: u64, f: &mut fmt::Formatter<W>) -> fmt::R
     let length = (payload >> 36) % 512;
     let check = (payload >> 29) % 128;
     let control = (payload >> 24) % 32;
-    write!(f, ", encoding {encoding}, length {length}, check {check}, control length {control}: ")?;
+    write!(
+        f,
+        ", encoding {encoding}, length {length}, check {check}, control length {control}: "
+    )?;
     quoted(payload, 8, 3, f)
 }
 
 // The lowest bytes of a payload in quotes; what is no printable ASCII as two hexadecimal digits.
-fn quoted<W: fmt::Write>(payload: u64, bits: u32, count: u32, f: &mut fmt::Formatter<W>) -> fmt::Result {
+fn quoted<W: fmt::Write>(
+    payload: u64,
+    bits: u32,
+    count: u32,
+    f: &mut fmt::Formatter<W>,
+) -> fmt::Result {
     write!(f, "\"")?;
     for i in (0..count).rev() {
         let behind = bits.saturating_mul(i);
-        let byte = if behind < 64 { (payload >> behind) % 256 } else { 0 };
-        let byte = if bits < 8 { (byte % 128) as u8 } else { byte as u8 };
+        let byte = if behind < 64 {
+            (payload >> behind) % 256
+        } else {
+            0
+        };
+        let byte = if bits < 8 {
+            (byte % 128) as u8
+        } else {
+            byte as u8
+        };
         if 32 <= byte && byte < 127 && byte != 34 && byte != 92 {
             let shown = char::from(byte);
             write!(f, "{shown}")?;

@@ -1,7 +1,9 @@
-// Texts made, lent and compared.
+// Texts made, lent and compared, and records compared.
 ghost use mathlib.Core.Path.{_≡_};
 ghost use Rattle.std.specs.shelf.Text.{sameBytes};
-ghost use Rattle.family.specs.Texts.{bytesOf, textView, textTaken};
+ghost use Rattle.family.specs.Meaning.{equalRecords};
+ghost use Rattle.family.specs.Texts.{bytesOf, textView, textTaken, recordView};
+use crate::text::Record;
 use crate::text::Text;
 use pdu::refusal::Refusal;
 
@@ -33,6 +35,21 @@ impl Text {
     pub fn same(&self, other: &Text) -> bool
         ensures { λ r. ⌜ r ≡ sameBytes (bytesOf (now (self .entry))) (bytesOf (now (other .entry))) ⌝ }
     {
-        self.as_slice() == other.as_slice()
+        same_bytes(self.as_slice(), other.as_slice())
     }
+}
+
+impl<H> Record<H> {
+    // Whether both records are equal.
+    pub fn equals(&self, other: &Record<H>) -> bool
+        ensures { λ r. ⌜ r ≡ equalRecords (recordView (now (self .entry))) (recordView (now (other .entry))) ⌝ }
+    {
+        self.text.same(&other.text)
+    }
+}
+
+fn same_bytes(a: &[u8], b: &[u8]) -> bool
+    ensures { λ r. ⌜ r ≡ sameBytes (now (a .entry)) (now (b .entry)) ⌝ }
+{
+    a == b
 }

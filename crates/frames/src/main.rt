@@ -47,15 +47,22 @@ fn run(rt: &LibcRuntime) -> Result<(), AnyError> {
         }
         [kind, sequence, priority, encoding, text] if kind.as_str() == "message" => {
             let head = MessageHead {
-                priority: number_in(priority.as_str(), "priority")?,
-                encoding: number_in(encoding.as_str(), "encoding")?,
+                priority: number_in(rt.alloc(), priority.as_str(), "priority")?,
+                encoding: number_in(rt.alloc(), encoding.as_str(), "encoding")?,
             };
-            print_cut(rt, &StationMessage, Place::Message, head, sequence.as_str(), text.as_str())
+            print_cut(
+                rt,
+                &StationMessage,
+                Place::Message,
+                head,
+                sequence.as_str(),
+                text.as_str(),
+            )
         }
         [kind, sequence, encoding, control, text] if kind.as_str() == "alert" => {
             let head = AlertHead {
-                encoding: number_in(encoding.as_str(), "encoding")?,
-                control_length: number_in(control.as_str(), "control length")?,
+                encoding: number_in(rt.alloc(), encoding.as_str(), "encoding")?,
+                control_length: number_in(rt.alloc(), control.as_str(), "control length")?,
             };
             print_alert(rt, head, sequence.as_str(), text.as_str())
         }
@@ -70,7 +77,12 @@ fn print_name(rt: &LibcRuntime, sequence: &str, text: &str) -> Result<(), AnyErr
     print_cut(rt, &Name, Place::Name, (), sequence, text)
 }
 
-fn print_alert(rt: &LibcRuntime, head: AlertHead, sequence: &str, text: &str) -> Result<(), AnyError> {
+fn print_alert(
+    rt: &LibcRuntime,
+    head: AlertHead,
+    sequence: &str,
+    text: &str,
+) -> Result<(), AnyError> {
     let Ok(alerts) = Alert::new(GENERATOR) else {
         return Err("the alert generator is not allowed".into());
     };
@@ -78,8 +90,15 @@ fn print_alert(rt: &LibcRuntime, head: AlertHead, sequence: &str, text: &str) ->
 }
 
 // Prints the cut of a record.
-fn print_cut<F: Family>(rt: &LibcRuntime, family: &F, place: Place, head: F::Head, sequence: &str, text: &str) -> Result<(), AnyError> {
-    let sequence = number_in(sequence, "sequence number")?;
+fn print_cut<F: Family>(
+    rt: &LibcRuntime,
+    family: &F,
+    place: Place,
+    head: F::Head,
+    sequence: &str,
+    text: &str,
+) -> Result<(), AnyError> {
+    let sequence = number_in(rt.alloc(), sequence, "sequence number")?;
     let bytes = bytes_in(rt.alloc(), text)?;
     let text = match Text::new(bytes.as_slice()) {
         Ok(text) => text,

@@ -10,7 +10,12 @@ use pdu::pdu::Pdu;
 use pdu::refusal::Refusal;
 
 // Whether the message is no unlawful frame.
-fn is_message_lawful<N: Family, M: Family, A: Family>(name: &N, message: &M, alert: &A, said: Message) -> bool
+fn is_message_lawful<N: Family, M: Family, A: Family>(
+    name: &N,
+    message: &M,
+    alert: &A,
+    said: Message,
+) -> bool
     ensures { λ r. ⌜ r ≡ messageLawful (lawfulAt (N·Family .meaning .lawful (now (name .entry))) (M·Family .meaning .lawful (now (message .entry))) (A·Family .meaning .lawful (now (alert .entry)))) said ⌝ }
 {
     match said {
@@ -22,7 +27,12 @@ fn is_message_lawful<N: Family, M: Family, A: Family>(name: &N, message: &M, ale
 }
 
 // Whether no frame of the contents is unlawful.
-pub fn is_lawful<N: Family, M: Family, A: Family>(name: &N, message: &M, alert: &A, contents: Contents) -> bool
+pub fn is_lawful<N: Family, M: Family, A: Family>(
+    name: &N,
+    message: &M,
+    alert: &A,
+    contents: Contents,
+) -> bool
     ensures { λ r. ⌜ r ≡ contentsLawful (lawfulAt (N·Family .meaning .lawful (now (name .entry))) (M·Family .meaning .lawful (now (message .entry))) (A·Family .meaning .lawful (now (alert .entry)))) contents ⌝ }
 {
     if !is_message_lawful(name, message, alert, contents.first) {
@@ -35,7 +45,12 @@ pub fn is_lawful<N: Family, M: Family, A: Family>(name: &N, message: &M, alert: 
 }
 
 // What a slice of bytes says.
-pub fn read<N: Family, M: Family, A: Family>(name: &N, message: &M, alert: &A, bytes: &[u8]) -> Result<Contents, Refusal>
+pub fn read<N: Family, M: Family, A: Family>(
+    name: &N,
+    message: &M,
+    alert: &A,
+    bytes: &[u8],
+) -> Result<Contents, Refusal>
     ensures value { λ r. ⌜ r ≡ readWith (lawfulAt (N·Family .meaning .lawful (now (name .entry))) (M·Family .meaning .lawful (now (message .entry))) (A·Family .meaning .lawful (now (alert .entry)))) (now (bytes .entry)) ⌝ }
     ensures written_again { λ r. ⌜ ((c : Contents) → r ≡ Ok c → encodedWith (lawfulAt (N·Family .meaning .lawful (now (name .entry))) (M·Family .meaning .lawful (now (message .entry))) (A·Family .meaning .lawful (now (alert .entry)))) c ≡ Ok (record { bytes = now (bytes .entry) })) ⌝ }
 {
@@ -48,7 +63,12 @@ pub fn read<N: Family, M: Family, A: Family>(name: &N, message: &M, alert: &A, b
 }
 
 // The PDU with these contents.
-pub fn encode<N: Family, M: Family, A: Family>(name: &N, message: &M, alert: &A, contents: Contents) -> Result<Pdu, Refusal>
+pub fn encode<N: Family, M: Family, A: Family>(
+    name: &N,
+    message: &M,
+    alert: &A,
+    contents: Contents,
+) -> Result<Pdu, Refusal>
     ensures value { λ r. ⌜ r ≡ encodedWith (lawfulAt (N·Family .meaning .lawful (now (name .entry))) (M·Family .meaning .lawful (now (message .entry))) (A·Family .meaning .lawful (now (alert .entry)))) contents ⌝ }
     ensures read_again { λ r. ⌜ ((p : Pdu) → r ≡ Ok p → readWith (lawfulAt (N·Family .meaning .lawful (now (name .entry))) (M·Family .meaning .lawful (now (message .entry))) (A·Family .meaning .lawful (now (alert .entry)))) (p .bytes) ≡ Ok contents) ⌝ }
 {
@@ -61,7 +81,13 @@ pub fn encode<N: Family, M: Family, A: Family>(name: &N, message: &M, alert: &A,
 }
 
 // Writes the PDU into a buffer of ten bytes; a refusal leaves the buffer as found.
-pub fn write<N: Family, M: Family, A: Family>(name: &N, message: &M, alert: &A, contents: Contents, buffer: &mut [u8]) -> Result<(), Refusal>
+pub fn write<N: Family, M: Family, A: Family>(
+    name: &N,
+    message: &M,
+    alert: &A,
+    contents: Contents,
+    buffer: &mut [u8],
+) -> Result<(), Refusal>
     ensures value { λ r. ⌜ r ≡ writeAnswerWith (lawfulAt (N·Family .meaning .lawful (now (name .entry))) (M·Family .meaning .lawful (now (message .entry))) (A·Family .meaning .lawful (now (alert .entry)))) contents (now (buffer .entry)) ⌝ }
     ensures after { λ r. ⌜ now (buffer .exit) ≡ bufferAfterWith (lawfulAt (N·Family .meaning .lawful (now (name .entry))) (M·Family .meaning .lawful (now (message .entry))) (A·Family .meaning .lawful (now (alert .entry)))) contents (now (buffer .entry)) ⌝ }
     ensures read_again { λ r. ⌜ (r ≡ Ok tt → readWith (lawfulAt (N·Family .meaning .lawful (now (name .entry))) (M·Family .meaning .lawful (now (message .entry))) (A·Family .meaning .lawful (now (alert .entry)))) (now (buffer .exit)) ≡ Ok contents) ⌝ }

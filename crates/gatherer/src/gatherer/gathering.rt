@@ -141,7 +141,7 @@ impl<F: Family> Gatherer<F> {
         ensures { λ r. ⌜ r ≡ isEqualTo (joinView (now (self .entry) .shown)) (recordView (now («record» .entry))) ⌝ }
     {
         match &self.shown {
-            Some(shown) => shown.text.same(&record.text),
+            Some(shown) => shown.equals(record),
             None => false,
         }
     }

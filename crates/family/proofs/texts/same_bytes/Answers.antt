@@ -1,4 +1,4 @@
-use mathlib.Core.Path.{_≡_, ap₂, _∙_}
+use mathlib.Core.Path.{_≡_}
 use mathlib.Core.Bool.{Bool}
 use mathlib.Core.List.{List}
 use Prim.Native.Nat.{ℕ}
@@ -6,10 +6,10 @@ use borrow.Author.Needs.{needs}
 use Rattle.std.specs.Orderings.{Decides}
 use Rattle.std.specs.shelf.Text.{sameBytes}
 use Rattle.std.proofs.shelf.Equals.{matches-decides, sameBytes-decides}
-use Rattle.family.proofs.text.Text.same.Needs as need
+use Rattle.family.proofs.texts.same_bytes.Needs as need
 
 tested : (xs ys : List ℕ) (r : Bool) → Decides r (xs ≡ ys) → r ≡ sameBytes xs ys
 tested xs ys r h = search (needs, sameBytes-decides)
 
 pub returns : need.returns
-returns c = tested _ _ _ (matches-decides _ _ _ (c .eq .ensures)) ∙ ap₂ sameBytes (c .as-slice .ensures) (c .as-slice-2 .ensures)
+returns c = tested _ _ _ (matches-decides _ _ _ (c .eq .ensures))
