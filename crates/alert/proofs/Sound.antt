@@ -1,11 +1,11 @@
 -- The layout of the alert is sound.
-use mathlib.Core.Path.{_≡_, refl, sym, ap, ap₂, _∙_}
-use mathlib.Core.Bool.{true, cond, _&&_}
+use mathlib.Core.Path.{_≡_, sym, ap, ap₂, _∙_}
+use mathlib.Core.Bool.{true, _&&_}
 use mathlib.Core.List.{List}
 use Prim.Native.Nat.{ℕ, _+_, _-_, _*_, _/_, _%_, _^_, _<_, _≤_, min}
 use native.Mathlib.Omega.{arith}
-use lib.ListN.{length, getD}
-use lib.Dec.{ltb, leb, eqb}
+use lib.ListN.{length}
+use lib.Dec.{leb, eqb}
 use Rattle.std.specs.declared.option.Option.the-variants.{None}
 use Rattle.std.proofs.shelf.Tests.{and-from, and-parts, lt-ltb, ltb-true, leb-true, eq-eqb, ne-eqb, cond-true, cond-false}
 use Rattle.std.proofs.shelf.Ways.{tells}
@@ -16,7 +16,7 @@ use Rattle.layout.proofs.Reading.{first-read, later-read}
 use Rattle.layout.proofs.Laws.{SoundLayout, frameIn, countOf, cut-first, each}
 use Rattle.alert.specs.declared.alert.Alert.{Alert}
 use Rattle.alert.specs.declared.alert.AlertHead.{AlertHead}
-use Rattle.alert.specs.Alert.{alertLayout, frameLayout, fieldsOf, alertRefusal, checkOf, lawfulFrame, lawfulHead, lawfulLength, numberIn, sequenceIn, reservedIn, headIn, lengthIn, lastIn}
+use Rattle.alert.specs.Alert.{alertLayout, frameLayout, fieldsOf, alertRefusal, checkOf, lawfulFrame, lawfulHead, lawfulLength, numberIn, sequenceIn, reservedIn, headIn, lengthIn}
 use Rattle.alert.proofs.Dividend.{remainder-below}
 
 layout-fits : FitLayout frameLayout

@@ -56,19 +56,23 @@ fieldsOf q h n c = record {
   trailing = 0;
 }
 
--- The fields of a frame.
+-- A frame's own number.
 abbrev pub numberIn : ℕ → ℕ
 numberIn x = x / 2 ^ 52 % 64
 
+-- A frame's sequence number.
 abbrev pub sequenceIn : ℕ → ℕ
 sequenceIn x = x / 2 ^ 50 % 4
 
+-- The reserved bits of a frame.
 abbrev pub reservedIn : ℕ → ℕ
 reservedIn x = x / 2 ^ 48 % 4
 
+-- The head that frame 0 tells.
 abbrev pub headIn : ℕ → AlertHead
 headIn x = record { encoding = x / 2 ^ 45 % 8; «control_length» = x / 2 ^ 24 % 32 }
 
+-- The length of the text that frame 0 tells.
 abbrev pub lengthIn : ℕ → ℕ
 lengthIn x = x / 2 ^ 36 % 512
 
@@ -80,7 +84,7 @@ lastIn x = frameCount frameLayout (lengthIn x) - 1
 abbrev pub lawfulFrame : ℕ → Bool
 lawfulFrame x = (ltb x (2 ^ 58) && eqb (reservedIn x) 0) && cond (eqb (numberIn x) 0) (lawfulHead (headIn x) && lawfulLength (headIn x) (lengthIn x)) true
 
--- No more bytes are looked for than a text holds.
+-- The layout of the family of alerts; no more bytes are looked for than a text holds.
 abbrev pub alertLayout : FamilyLayout Alert AlertHead
 alertLayout = record {
   modulus = 4;

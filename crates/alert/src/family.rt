@@ -13,8 +13,8 @@ use family::text::Text;
 use layout::frames::frame_or_zero;
 use layout::layout::FrameFields;
 use layout::layout::FrameLayout;
-use layout::refusing::check;
-use layout::refusing::pass;
+use layout::refusing::require;
+use layout::refusing::unless_refused;
 use pdu::refusal::Refusal;
 
 const LAYOUT: FrameLayout = FrameLayout {
@@ -124,7 +124,7 @@ pub impl Family for Alert as AlertFamily {
     }
 
     fn frame_count(&self, record: &Record<AlertHead>) -> Result<usize, Refusal> {
-        pass(self.refusal(record))?;
+        unless_refused(self.refusal(record))?;
         Ok(LAYOUT.frame_count(record.text.len))
     }
 
@@ -150,17 +150,17 @@ pub impl Family for Alert as AlertFamily {
     }
 
     fn number(&self, frame: Payload) -> Result<usize, Refusal> {
-        check(self.is_lawful(frame), Refusal::UnlawfulFrame)?;
+        require(self.is_lawful(frame), Refusal::UnlawfulFrame)?;
         Ok(number_in(frame))
     }
 
     fn sequence(&self, frame: Payload) -> Result<u8, Refusal> {
-        check(self.is_lawful(frame), Refusal::UnlawfulFrame)?;
+        require(self.is_lawful(frame), Refusal::UnlawfulFrame)?;
         Ok(sequence_in(frame))
     }
 
     fn last_number(&self, frame: Payload) -> Result<usize, Refusal> {
-        check(
+        require(
             self.is_lawful(frame) && number_in(frame) == 0,
             Refusal::UnlawfulFrame,
         )?;

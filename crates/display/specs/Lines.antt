@@ -15,6 +15,7 @@ pub record LineOf : Type 0 where
   pub place : ℕ
   pub bytes : List ℕ
 
+-- What a line stands for.
 abbrev pub lineView : Line → LineOf
 lineView l = record { source = l .source; place = l .place; bytes = l .bytes .now }
 

@@ -17,10 +17,12 @@ pub record PartOf : Type 0 where
   pub place : ℕ
   pub bytes : List ℕ
 
+-- A piece is control data or text.
 pub data PieceOf : Type 0 where
   control : PartOf → PieceOf
   text : PartOf → PieceOf
 
+-- What a part, a piece and an answer with two pieces stand for.
 abbrev pub partView : Part → PartOf
 partView p = record { place = p .place; bytes = p .bytes .now }
 

@@ -1,14 +1,13 @@
 -- Bytes packed behind a number, and read again.
-use mathlib.Core.Path.{_≡_, refl, sym, ap, ap₂, subst, _∙_}
-use mathlib.Core.Bool.{Bool, true, false, cond}
-use mathlib.Core.List.{List, [], _∷_, map}
-use mathlib.Core.Logic.{_⊎_, inl, inr, ⊎-elim}
+use mathlib.Core.Path.{_≡_, sym, ap, ap₂, subst, _∙_}
+use mathlib.Core.List.{List}
+use mathlib.Core.Logic.{_⊎_, ⊎-elim}
 use Prim.Native.Nat.{ℕ, zero, suc, _+_, _-_, _*_, _/_, _%_, _^_, _<_, _≤_}
 use native.Mathlib.Omega.{arith}
 use native.Mathlib.Nat.{div-div-eq-div-mul, div-one, mul-suc, mul-zero, one-mul, mod-eq-of-lt, mul-assoc, mul-le-mul-left}
 use lib.Arith.{digits-div, digits-mod, digits-lt}
 use lib.Pow.{pow-add, pow-mono}
-use lib.ListN.{length, getD}
+use lib.ListN.{getD}
 use Rattle.std.proofs.shelf.Tests.{cases-lt}
 use Rattle.layout.specs.Frames.{withBytes, byteOf, FitBits}
 
@@ -76,8 +75,8 @@ packed-below n w t p k i x few h l fits e =
     omega (arith, v, r)
 
 -- and so do trailing fields of up to three bits
-pub tailed : (y n r : ℕ) → y < 2 ^ 61 → n ≤ 3 → r < 2 ^ n → y * 2 ^ n + r < 2 ^ 64
-tailed y n r a b h =
+pub trailing-below : (y n r : ℕ) → y < 2 ^ 61 → n ≤ 3 → r < 2 ^ n → y * 2 ^ n + r < 2 ^ 64
+trailing-below y n r a b h =
     let p : 2 ^ n ≤ 2 ^ 3 = pow-mono b in
     let q : 2 ^ 61 * 2 ^ n ≤ 2 ^ 61 * 2 ^ 3 = mul-le-mul-left (2 ^ 61) p in
     let d = digits-lt a h in

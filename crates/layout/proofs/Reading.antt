@@ -1,16 +1,14 @@
--- Where byte j of a text stands.
-use mathlib.Core.Path.{_≡_, refl, sym, ap, ap₂, subst, _∙_}
-use mathlib.Core.Bool.{Bool, true, false, cond}
-use mathlib.Core.List.{List, [], _∷_, map}
-use mathlib.Core.Logic.{_⊎_, inl, inr, ⊎-elim}
-use Prim.Native.Nat.{ℕ, zero, suc, _+_, _-_, _*_, _/_, _%_, _^_, _<_, _≤_}
+-- What is read from frames: the bytes of the text, and the fields around them.
+use mathlib.Core.Path.{_≡_, sym, ap, ap₂, subst, _∙_}
+use mathlib.Core.List.{List}
+use mathlib.Core.Logic.{_⊎_, ⊎-elim}
+use Prim.Native.Nat.{ℕ, _+_, _-_, _*_, _/_, _%_, _^_, _<_, _≤_}
 use native.Mathlib.Omega.{arith}
 use native.Mathlib.Nat.{mod-lt, div-add-mod', le-div-iff-mul-le, div-mul-le-self, zero-add, zero-div, zero-mod, add-mul, one-mul}
 use lib.Arith.{digits-div, digits-mod}
 use lib.Pow.{pow-pos, pow-mono}
 use lib.ListN.{length, getD}
 use lib.Dec.{ltb, eqb}
-use Rattle.std.specs.Iters.{counting}
 use Rattle.std.proofs.shelf.Tests.{cases-lt, lt-ltb, le-ltb, ne-eqb, cond-true, cond-false, cond-both}
 use Rattle.std.proofs.shelf.Lists.{getD-past, ext-getD}
 use Rattle.std.proofs.shelf.Counted.{getD-map-counting, length-map-counting}
@@ -18,14 +16,12 @@ use Rattle.layout.specs.declared.layout.FrameLayout.{FrameLayout}
 use Rattle.layout.specs.declared.layout.FrameFields.{FrameFields}
 use Rattle.layout.specs.Frames.{withBytes, byteOf, frameCount, leadingOf, frameOf, placeOf, bytesIn, byteAt, textIn, FitBits, FitLayout}
 use Rattle.layout.proofs.Packing.{within, before}
+use Rattle.layout.proofs.Leading.{leading-later, bytes-later}
 
 pub place-after : (s : FrameLayout) (d : ℕ) → placeOf s (1 + d) ≡ s .«first_bytes» + d * s .«later_bytes»
 place-after s d =
     let e : 1 + d - 1 ≡ d = omega arith in
     cond-false (eqb (1 + d) 0) 0 (s .«first_bytes» + (1 + d - 1) * s .«later_bytes») (ne-eqb (1 + d) 0 (λ z. omega arith)) ∙ ap (λ (x : ℕ). s .«first_bytes» + x * s .«later_bytes») e
-
-pub bytes-after : (s : FrameLayout) (d : ℕ) → bytesIn s (1 + d) ≡ s .«later_bytes»
-bytes-after s d = cond-false (eqb (1 + d) 0) (s .«first_bytes») (s .«later_bytes») (ne-eqb (1 + d) 0 (λ z. omega arith))
 
 -- the frame of byte j is there
 pub in-frames : (s : FrameLayout) (n j : ℕ) → FitLayout s → s .«first_bytes» ≤ j → j < n → 1 + (j - s .«first_bytes») / s .«later_bytes» < frameCount s n
@@ -37,7 +33,7 @@ in-frames s n j ok f l =
     let h : d + 1 ≤ (n - s .«first_bytes» + (s .«later_bytes» - 1)) / s .«later_bytes» = le-div-iff-mul-le lp .1 (omega (arith, a, b, lp, f, l)) in
     omega (arith, h)
 
--- frameCount that hold the bytes of t behind fields of their own
+-- frames that hold the bytes of t behind fields of their own
 abbrev pub Holds : FrameLayout → List ℕ → List ℕ → Type 0
 Holds s t xs = (i : ℕ) → i < frameCount s (length t) → (n : ℕ) × (getD xs i 0 / 2 ^ s .«trailing_bits» ≡ withBytes n (s .«byte_bits») t (placeOf s i) (bytesIn s i))
 
@@ -63,7 +59,7 @@ byte-read s t xs j ok small all h =
     ∙ ⊎-elim
     (λ (here : 1 + d < frameCount s (length t)).
     let k = h (1 + d) here in
-    ap (byteOf (s .«byte_bits») (s .«later_bytes») m) (k .1 ∙ ap₂ (withBytes (k .0) (s .«byte_bits») t) (place-after s d) (bytes-after s d))
+    ap (byteOf (s .«byte_bits») (s .«later_bytes») m) (k .1 ∙ ap₂ (withBytes (k .0) (s .«byte_bits») t) (place-after s d) (bytes-later s (1 + d) (λ z. omega arith)))
     ∙ within (k .0) (s .«byte_bits») t (s .«first_bytes» + d * s .«later_bytes») (s .«later_bytes») m small (mod-lt (j - s .«first_bytes») lp)
     ∙ ap (λ (x : ℕ). getD t x 0) e)
     (λ (absent : frameCount s (length t) ≤ 1 + d).
@@ -108,5 +104,5 @@ first-read s f t small r = leading-read s f t 0 small r
 
 pub later-read : (s : FrameLayout) (f : FrameFields) (t : List ℕ) (i : ℕ) → (i ≡ 0 → ⊥) → FitBits (s .«byte_bits») t → f .trailing < 2 ^ s .«trailing_bits» → frameOf s f t i / 2 ^ s .«trailing_bits» / 2 ^ (s .«byte_bits» * s .«later_bytes») ≡ f .«later_leading» + i * f .«number_unit»
 later-read s f t i z small r =
-    ap (λ (w : ℕ). frameOf s f t i / 2 ^ s .«trailing_bits» / 2 ^ (s .«byte_bits» * w)) (sym (cond-false (eqb i 0) (s .«first_bytes») (s .«later_bytes») (ne-eqb i 0 z)))
-    ∙ leading-read s f t i small r ∙ cond-false (eqb i 0) (f .«first_leading») (f .«later_leading» + i * f .«number_unit») (ne-eqb i 0 z)
+    ap (λ (w : ℕ). frameOf s f t i / 2 ^ s .«trailing_bits» / 2 ^ (s .«byte_bits» * w)) (sym (bytes-later s i z))
+    ∙ leading-read s f t i small r ∙ leading-later f i z

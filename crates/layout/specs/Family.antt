@@ -35,6 +35,7 @@ recordCut l s r q = cutOf (l .frame-layout) (l .fields s r q) (r .text)
 abbrev pub recordIn : {S T : Type 0} → FamilyLayout S T → S → List ℕ → RecordOf T
 recordIn l s xs = record { head = l .head-of s (getD xs 0 0); text = textIn (l .frame-layout) xs (l .length-of s xs) }
 
+-- Whether there is no refusal.
 abbrev pub accepted : Option Refusal → Bool
 accepted None = true
 accepted (Some e) = false

@@ -36,13 +36,15 @@ fieldsOf n q = record {
   trailing = q;
 }
 
--- The fields of a frame.
+-- The last number that a frame tells.
 abbrev pub lastIn : ℕ → ℕ
 lastIn x = x / 2 ^ 55 % 8
 
+-- A frame's own number.
 abbrev pub numberIn : ℕ → ℕ
 numberIn x = x / 2 ^ 52 % 8
 
+-- A frame's sequence number.
 abbrev pub sequenceIn : ℕ → ℕ
 sequenceIn x = x % 8
 
@@ -51,6 +53,7 @@ abbrev pub untilZero : (ℕ → ℕ) → ℕ → ℕ → ℕ
 untilZero f j zero = j
 untilZero f j (suc k) = cond (eqb (f j) 0) j (untilZero f (j + 1) k)
 
+-- The layout of the family of names; a name ends before the first zero.
 abbrev pub nameLayout : FamilyLayout Name (Unit {0})
 nameLayout = record {
   modulus = 8;

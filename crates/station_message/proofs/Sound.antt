@@ -1,11 +1,10 @@
 -- The layout of the station message is sound.
-use mathlib.Core.Path.{_≡_, refl, sym, ap, _∙_}
-use mathlib.Core.Bool.{true, cond, _&&_}
-use mathlib.Core.List.{List}
+use mathlib.Core.Path.{_≡_, sym, ap, _∙_}
+use mathlib.Core.Bool.{true}
 use Prim.Native.Nat.{ℕ, _+_, _-_, _*_, _/_, _%_, _^_, _<_, _≤_}
 use native.Mathlib.Omega.{arith}
-use lib.ListN.{length, getD}
-use lib.Dec.{ltb, eqb}
+use lib.ListN.{length}
+use lib.Dec.{eqb}
 use Rattle.std.specs.declared.option.Option.the-variants.{None}
 use Rattle.std.proofs.shelf.Tests.{and-from, and-parts, lt-ltb, ltb-true, eq-eqb, ne-eqb, cond-true, cond-false}
 use Rattle.std.proofs.shelf.Ways.{tells}
@@ -17,7 +16,7 @@ use Rattle.layout.proofs.Laws.{SoundLayout, frameIn, countOf, cut-first, each}
 use Rattle.station_message.specs.declared.message.StationMessage.{StationMessage}
 use Rattle.station_message.specs.declared.message.MessageHead.{MessageHead}
 use Rattle.station_message.specs.Checksum.{checksumOf}
-use Rattle.station_message.specs.Message.{messageLayout, frameLayout, fieldsOf, messageRefusal, lawfulFrame, lawfulEncoding, lawfulLength, numberIn, sequenceIn, reservedIn, headIn, lengthIn}
+use Rattle.station_message.specs.Message.{messageLayout, frameLayout, fieldsOf, messageRefusal, lawfulFrame, lawfulEncoding, lawfulLength, numberIn, sequenceIn, reservedIn, lengthIn}
 
 layout-fits : FitLayout frameLayout
 layout-fits = record { byte-bits-few = omega arith; trailing-bits-few = omega arith; first-some = omega arith; first-few = omega arith; later-some = omega arith; later-few = omega arith }

@@ -1,6 +1,5 @@
 -- The station message: 4 to 190 bytes, four in frame 0 and six in each later frame, the last frame filled with zeros.
 use mathlib.Core.Bool.{Bool, cond, _&&_, _||_}
-use mathlib.Core.List.{List}
 use Prim.Native.Nat.{ℕ, _+_, _-_, _*_, _/_, _%_, _^_}
 use lib.ListN.{length, getD}
 use lib.Dec.{ltb, leb, eqb}
@@ -41,19 +40,23 @@ fieldsOf q h n c = record {
   trailing = 0;
 }
 
--- The fields of a frame.
+-- A frame's own number.
 abbrev pub numberIn : ℕ → ℕ
 numberIn x = x / 2 ^ 53 % 32
 
+-- A frame's sequence number.
 abbrev pub sequenceIn : ℕ → ℕ
 sequenceIn x = x / 2 ^ 51 % 4
 
+-- The reserved bits of a later frame.
 abbrev pub reservedIn : ℕ → ℕ
 reservedIn x = x / 2 ^ 48 % 8
 
+-- The head that frame 0 tells.
 abbrev pub headIn : ℕ → MessageHead
 headIn x = record { priority = x / 2 ^ 50 % 2; encoding = x / 2 ^ 47 % 8 }
 
+-- The length of the text that frame 0 tells.
 abbrev pub lengthIn : ℕ → ℕ
 lengthIn x = x / 2 ^ 39 % 256
 
@@ -65,6 +68,7 @@ lastIn x = frameCount frameLayout (lengthIn x) - 1
 abbrev pub lawfulFrame : ℕ → Bool
 lawfulFrame x = ltb x (2 ^ 58) && cond (eqb (numberIn x) 0) (lawfulEncoding (headIn x .encoding) && lawfulLength (lengthIn x)) (eqb (reservedIn x) 0)
 
+-- The layout of the family of messages.
 abbrev pub messageLayout : FamilyLayout StationMessage MessageHead
 messageLayout = record {
   modulus = 4;

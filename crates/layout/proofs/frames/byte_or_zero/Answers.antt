@@ -1,6 +1,6 @@
-use mathlib.Core.Path.{_≡_, sym}
+use mathlib.Core.Path.{sym}
 use native.Mathlib.Omega.{arith}
-use lib.ListN.{length, take}
+use lib.ListN.{take}
 use Rattle.std.proofs.shelf.Lists.{getD-take, getD-past, length-take-le}
 use Rattle.layout.proofs.frames.byte_or_zero.Needs as need
 

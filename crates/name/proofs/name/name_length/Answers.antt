@@ -1,7 +1,7 @@
-use mathlib.Core.Path.{_≡_, sym, _∙_}
+use mathlib.Core.Path.{_∙_}
 use native.Mathlib.Omega.{arith}
 use Rattle.layout.specs.Frames.{byteAt}
-use Rattle.name.specs.Name.{frameLayout, untilZero}
+use Rattle.name.specs.Name.{frameLayout}
 use Rattle.name.proofs.Loops.{until-zero-more, until-zero-stop, until-zero-all}
 use Rattle.name.proofs.name.name_length.Needs as need
 

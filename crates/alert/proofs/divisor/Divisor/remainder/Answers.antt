@@ -1,11 +1,11 @@
 use mathlib.Core.Path.{_≡_, sym, ap, subst, _∙_}
-use mathlib.Core.List.{List, _++_}
-use Prim.Native.Nat.{ℕ, _+_, _*_, _-_, _<_, _^_}
+use mathlib.Core.List.{List}
+use Prim.Native.Nat.{ℕ, _+_, _-_, _^_}
 use native.Mathlib.Omega.{arith}
-use lib.ListN.{length, getD, drop, replicate}
+use lib.ListN.{getD, drop, replicate}
 use Rattle.std.specs.shelf.Lists.{joined}
 use Rattle.std.proofs.shelf.Lists.{at-drop-more, at-drop-all}
-use Rattle.pdu.specs.Division.{divided, lowered, OnlyRemainder}
+use Rattle.pdu.specs.Division.{divided, OnlyRemainder}
 use Rattle.alert.specs.Division.{bitsOf, dividend, textRemainder}
 use Rattle.alert.proofs.Dividend.{divided-append, divided-none, divided-zero, remainder-only}
 use Rattle.alert.proofs.divisor.Divisor.remainder.Needs as need

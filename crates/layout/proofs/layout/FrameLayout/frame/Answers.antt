@@ -1,4 +1,4 @@
-use mathlib.Core.Path.{_≡_, sym, ap, ap₂, _∙_}
+use mathlib.Core.Path.{_≡_, ap, ap₂}
 use Prim.Native.Nat.{ℕ, _+_, _*_, _^_, _%_, _<_, _≤_}
 use native.Mathlib.Omega.{arith}
 use Rattle.family.specs.declared.text.Text.{Text}
@@ -6,7 +6,7 @@ use Rattle.family.specs.Texts.{bytesOf}
 use Rattle.layout.specs.declared.layout.FrameLayout.{FrameLayout}
 use Rattle.layout.specs.declared.layout.FrameFields.{FrameFields}
 use Rattle.layout.specs.Frames.{withBytes, placeOf, bytesIn, leadingOf, Cuttable}
-use Rattle.layout.proofs.Packing.{shifted, with-bytes-below, tailed}
+use Rattle.layout.proofs.Packing.{shifted, with-bytes-below, trailing-below}
 use Rattle.layout.proofs.Leading.{room-in}
 use Rattle.layout.proofs.layout.FrameLayout.frame.Needs as need
 
@@ -18,7 +18,7 @@ below s f t i y ok h e =
     let few : s .«trailing_bits» ≤ 3 = ok .layout-fits .trailing-bits-few in
     let b : y < 2 ^ 61 = omega (arith, q, k, e) in
     let v : y * (1 * 2 ^ s .«trailing_bits» % 18446744073709551616) ≡ y * 2 ^ s .«trailing_bits» = ap (λ (x : ℕ). y * x) (shifted (s .«trailing_bits») (omega arith)) in
-    let z = tailed y (s .«trailing_bits») (f .trailing) b few (ok .fields-fit .trailing-fits) in
+    let z = trailing-below y (s .«trailing_bits») (f .trailing) b few (ok .fields-fit .trailing-fits) in
     omega (arith, v, z)
 
 pub mul-result : need.mul-result

@@ -3,4 +3,4 @@ use Rattle.name.specs.Name.{nameLayout}
 use Rattle.name.proofs.name.NameFamily.frame_count.Needs as need
 
 pub returns : need.returns
-returns c = count-due nameLayout (c .args .self .now) (c .args .record .now) (c .pass .result) _ (c .refusal .result) (c .frame-count .result) (c .refusal .ensures) (c .pass .ensures) (c .in-Continue-pass .was tt) (c .frame-count .ensures)
+returns c = count-due nameLayout (c .args .self .now) (c .args .record .now) (c .unless-refused .result) _ (c .refusal .result) (c .frame-count .result) (c .refusal .ensures) (c .unless-refused .ensures) (c .in-Continue-unless-refused .was tt) (c .frame-count .ensures)
