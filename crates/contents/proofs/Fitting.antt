@@ -21,12 +21,8 @@ use Rattle.message.specs.declared.message.Message.the-variants.{StationId, Shor
 use Rattle.message.specs.declared.place.Place.the-variants.{Name, Message as PlaceMessage, Alert}
 use Rattle.message.specs.Message.{sizeOf, numberOf, messageOf, parsed}
 use Rattle.message.specs.Results.{andThen}
-use Rattle.message.proofs.Packed.{then-parts}
+use Rattle.message.proofs.Ranges.{refused, then-parts}
 use Rattle.contents.specs.Area.{sizeDue, firstSize, secondSize}
-
--- an answer that is refused is no answer
-pub refused : {A B : Type 0} (x : Refusal) (a : A) → _≡_ {A = Result A Refusal} (Err x) (Ok a) → B
-refused x a e = absurd (let z : _≡_ {A = ℕ} 0 1 = cc in omega arith)
 
 -- a test that refuses
 pub unless-refused : {A : Type 0} (b : Bool) (x : Refusal) (a y : A) → cond b (Err x) (Ok a) ≡ Ok y → (b ≡ false) × (a ≡ y)

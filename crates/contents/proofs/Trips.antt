@@ -17,13 +17,13 @@ use Rattle.pdu.specs.declared.fields.Fields.{Fields}
 use Rattle.message.specs.declared.message.Message.{Message}
 use Rattle.message.specs.Message.{sizeOf, numberOf, parsed, payloadOf}
 use Rattle.message.specs.Results.{andThen}
-use Rattle.message.proofs.Packed.{then-ok, then-parts}
+use Rattle.message.proofs.Ranges.{refused, then-ok, then-parts}
 use Rattle.message.proofs.Messages.{written-again}
 use Rattle.contents.specs.declared.contents.Contents.{Contents}
 use Rattle.contents.specs.Area.{upper, lower, joined, firstSize, secondSize}
 use Rattle.contents.specs.Contents.{ifNothingLeft, contentsWith, oneMessage, secondMessage, twoMessages, contentsOf, fieldsWith, oneWritten, twoWritten, fieldsOf, withSecond}
 use Rattle.contents.proofs.Areas.{joined-small, upper-joined, lower-joined, joined-again}
-use Rattle.contents.proofs.Fitting.{refused, first-parts, second-parts, payload-small}
+use Rattle.contents.proofs.Fitting.{first-parts, second-parts, payload-small}
 
 -- nothing is left over
 nothing-left : {A : Type 0} (leftover : ℕ) (x : A) → leftover ≡ 0 → ifNothingLeft leftover x ≡ Ok x

@@ -1,3 +1,8 @@
 pub mod Sizes
-pub mod Packed
+pub mod Ranges
+pub mod TwosComplement
+pub mod StationPacked
+pub mod LocationPacked
+pub mod ServicePacked
+pub mod ParameterPacked
 pub mod Messages

@@ -26,7 +26,11 @@ use Rattle.message.specs.Location.{halfOf, halfInRange, halfPacked}
 use Rattle.message.specs.Service.{serviceOf}
 use Rattle.message.specs.Parameter.{parameterOf}
 use Rattle.message.specs.Message.{sizeOf, numberOf, messageOf, parsed, payloadOf}
-use Rattle.message.proofs.Packed.{in-range, range-parts, then-ok, then-parts, station-again, station-packed, shortName-again, shortName-packed, half-again, half-packed, service-packed, parameter-packed}
+use Rattle.message.proofs.Ranges.{refused, in-range, range-parts, then-ok, then-parts}
+use Rattle.message.proofs.StationPacked.{station-again, station-packed, shortName-again, shortName-packed}
+use Rattle.message.proofs.LocationPacked.{half-again, half-packed}
+use Rattle.message.proofs.ServicePacked.{service-packed}
+use Rattle.message.proofs.ParameterPacked.{parameter-packed}
 
 -- a payload that fits
 fits : {A : Type 0} (p size : ℕ) (x : Result A Refusal) → p < 2 ^ size → cond (ltb p (2 ^ size)) x (Err OutOfRange) ≡ x
@@ -72,9 +76,6 @@ universal-read x p e = let parts = range-parts (ltb x (2 ^ 58)) x p e in ap (par
 -- the same message under another name
 pub via : (m k : MessageType) (p : ℕ) → m ≡ k → parsed (numberOf k) p ≡ Ok k → parsed (numberOf m) p ≡ Ok m
 via m k p e h = subst (λ (x : MessageType). parsed (numberOf x) p ≡ Ok x) (sym e) h
-
-refused : {A B : Type 0} (x : Refusal) (a : A) → _≡_ {A = Result A Refusal} (Err x) (Ok a) → B
-refused x a e = absurd (let z : _≡_ {A = ℕ} 0 1 = cc in omega arith)
 
 -- the payload that a test of its size lets through
 tested : (p size : ℕ) (x : Result MessageType Refusal) (m : MessageType) → cond (ltb p (2 ^ size)) x (Err OutOfRange) ≡ Ok m → (p < 2 ^ size) × (x ≡ Ok m)

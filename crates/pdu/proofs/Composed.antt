@@ -20,6 +20,7 @@ use Rattle.pdu.specs.Division.{remainder}
 use Rattle.pdu.specs.Fields.{flag, bitOf, fieldsOf, tested, parsed, fit, uncheckedNumber, checked, composed}
 use Rattle.pdu.proofs.Coefficients.{agree, binary, coefficient-is}
 use Rattle.pdu.proofs.Division.{remainder-low}
+use Rattle.pdu.proofs.Flags.{flag-bit, bit-flag, bit-small}
 use Rattle.pdu.proofs.TenBytes.{number-small, number-bytes, bytes-number}
 
 pub check-small : (bs : List ℕ) → checkOf bs < 4096
@@ -65,20 +66,6 @@ coefficient-kept n k i z s = ⊎-elim
 pub check-kept : (n k : ℕ) → n % 4096 ≡ 0 → k < 4096 → checkOf (bytesOf (n + k)) ≡ checkOf (bytesOf n)
 check-kept n k z s = ap (remainder 12 generator) (agree (coefficient (bytesOf (n + k))) (coefficient (bytesOf n)) 80 (λ i l. coefficient-kept n k i z s))
 
--- a flag and its bit
-flag-bit : (b : Bool) → flag (bitOf b) ≡ b
-flag-bit true = refl
-flag-bit false = refl
-
-bit-flag : (n : ℕ) → n < 2 → bitOf (flag n) ≡ n
-bit-flag zero h = refl
-bit-flag (suc zero) h = refl
-bit-flag (suc (suc n)) h = absurd (omega arith)
-
-bit-below : (b : Bool) → bitOf b < 2
-bit-below true = omega arith
-bit-below false = omega arith
-
 fit-parts : (f : Fields) → fit f ≡ true → (f .number < 16) × (f .area < 2 ^ 58) × (f .pair < 4)
 fit-parts f h =
     let outer = and-parts (ltb (f .number) 16 && ltb (f .area) (2 ^ 58)) (ltb (f .pair) 4) h in
@@ -93,9 +80,9 @@ fields-again : (f : Fields) (k : ℕ) → fit f ≡ true → k < 4096 → fields
 fields-again f k h s =
     let small = fit-parts f h in
     let n = uncheckedNumber f + k in
-    let be = bit-below (f .extension) in
-    let br = bit-below (f .reserved) in
-    let bl = bit-below (f .«time_locked») in
+    let be = bit-small (f .extension) in
+    let br = bit-small (f .reserved) in
+    let bl = bit-small (f .«time_locked») in
     let e : bits 1 1 n ≡ bitOf (f .extension) = omega arith in
     let m : bits 2 4 n ≡ f .number = omega arith in
     let a : bits 6 58 n ≡ f .area = omega arith in
@@ -145,9 +132,9 @@ composed-right f h = cond-true (fit f) (Ok (checked (uncheckedNumber f))) (Err O
 pub read-again : (f : Fields) → fit f ≡ true → parsed (checked (uncheckedNumber f)) ≡ Ok f
 read-again f h =
     let small = fit-parts f h in
-    let be = bit-below (f .extension) in
-    let br = bit-below (f .reserved) in
-    let bl = bit-below (f .«time_locked») in
+    let be = bit-small (f .extension) in
+    let br = bit-small (f .reserved) in
+    let bl = bit-small (f .«time_locked») in
     let n = uncheckedNumber f in
     let k = checkOf (bytesOf n) in
     let ks = check-small (bytesOf n) in

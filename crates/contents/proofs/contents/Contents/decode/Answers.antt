@@ -1,7 +1,7 @@
 use mathlib.Core.Path.{_≡_, sym, _∙_}
 use borrow.Author.Needs.{needs}
 use Rattle.pdu.specs.Fields.{composed}
-use Rattle.message.proofs.Packed.{then-ok}
+use Rattle.message.proofs.Ranges.{then-ok}
 use Rattle.contents.specs.Contents.{fieldsOf}
 use Rattle.contents.proofs.Trips.{fields-again}
 use Rattle.contents.proofs.contents.Contents.decode.Needs as need

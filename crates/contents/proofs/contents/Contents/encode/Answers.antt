@@ -2,7 +2,7 @@ use mathlib.Core.Path.{_≡_, sym, _∙_}
 use borrow.Author.Needs.{needs}
 use Rattle.std.specs.declared.result.Result.the-variants.{Ok}
 use Rattle.pdu.specs.Fields.{parsed as fieldsIn}
-use Rattle.message.proofs.Packed.{then-ok}
+use Rattle.message.proofs.Ranges.{then-ok}
 use Rattle.contents.specs.Contents.{contentsOf}
 use Rattle.contents.proofs.contents.Contents.encode.Needs as need
 
