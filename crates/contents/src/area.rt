@@ -7,7 +7,7 @@ use message::size::payload_size;
 use pdu::refusal::Refusal;
 
 // The first bits of an area of some width, and the rest.
-pub fn split(area: u64, width: u32, many: u32) -> (u64, u64)
+pub(crate) fn split(area: u64, width: u32, many: u32) -> (u64, u64)
     requires { ⌜ width ≤ 58 ⌝ ∗ ⌜ many ≤ width ⌝ ∗ ⌜ area < 2 ^ width ⌝ }
     ensures upper { λ r. ⌜ r .0 ≡ upper (width - many) area ⌝ }
     ensures rest { λ r. ⌜ r .1 ≡ lower (width - many) area ⌝ }
@@ -19,7 +19,7 @@ pub fn split(area: u64, width: u32, many: u32) -> (u64, u64)
 }
 
 // Some bits, followed by an area of some width.
-pub fn join(first: u64, many: u32, area: u64, width: u32) -> u64
+pub(crate) fn join(first: u64, many: u32, area: u64, width: u32) -> u64
     requires { ⌜ many + width ≤ 58 ⌝ ∗ ⌜ first < 2 ^ many ⌝ ∗ ⌜ area < 2 ^ width ⌝ }
     ensures value { λ r. ⌜ r ≡ joined first width area ⌝ }
     ensures small { λ r. ⌜ r < 2 ^ (many + width) ⌝ }
@@ -28,7 +28,7 @@ pub fn join(first: u64, many: u32, area: u64, width: u32) -> u64
 }
 
 // The payload size of the first message; with a second one it leaves room for that one's number.
-pub fn first_size(extension: bool, number: u8) -> Result<u32, Refusal>
+pub(crate) fn first_size(extension: bool, number: u8) -> Result<u32, Refusal>
     ensures value { λ r. ⌜ r ≡ firstSize extension number ⌝ }
     ensures small { λ r. ⌜ Cases r (λ size. size ≤ 58) (λ e. Unit {0}) ⌝ }
 {
@@ -40,7 +40,7 @@ pub fn first_size(extension: bool, number: u8) -> Result<u32, Refusal>
 }
 
 // The payload size of the second message; both payloads together have at most 54 bits.
-pub fn second_size(first: u32, number: u8) -> Result<u32, Refusal>
+pub(crate) fn second_size(first: u32, number: u8) -> Result<u32, Refusal>
     requires { ⌜ first ≤ 58 ⌝ }
     ensures value { λ r. ⌜ r ≡ secondSize first number ⌝ }
     ensures fits { λ r. ⌜ Cases r (λ size. first + size ≤ 54) (λ e. Unit {0}) ⌝ }

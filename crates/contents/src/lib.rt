@@ -2,5 +2,5 @@
 mod area;
 pub mod codec;
 pub mod contents;
-pub mod reading;
-pub mod writing;
+mod reading;
+mod writing;

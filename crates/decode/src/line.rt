@@ -27,7 +27,7 @@ pub impl fmt::Display for LineError as LineErrorDisplay {
 }
 
 // The bytes that a line spells, two digits each; blanks are passed over.
-pub fn bytes_of(heap: Global, line: &str) -> Result<Result<Vec<u8>, LineError>, AllocError> {
+pub(crate) fn bytes_of(heap: Global, line: &str) -> Result<Result<Vec<u8>, LineError>, AllocError> {
     let mut bytes = Vec::new(heap);
     let mut upper: Option<u8> = None;
     for (i, character) in line.chars().enumerate() {

@@ -5,7 +5,7 @@ use std::alloc::Global;
 use std::error::AnyError;
 
 // A number from 0 to 255.
-pub fn number_in(heap: Global, word: &str, what: &str) -> Result<u8, AnyError> {
+pub(crate) fn number_in(heap: Global, word: &str, what: &str) -> Result<u8, AnyError> {
     match word.parse::<u8>() {
         Ok(number) => Ok(number),
         Err(_) => { Err(format!(heap, "the {what} '{word}' is no number from 0 to 255")?.into()) }
@@ -13,7 +13,7 @@ pub fn number_in(heap: Global, word: &str, what: &str) -> Result<u8, AnyError> {
 }
 
 // The bytes of a word, or those that its hexadecimal digits spell.
-pub fn bytes_in(heap: Global, word: &str) -> Result<Vec<u8>, AnyError> {
+pub(crate) fn bytes_in(heap: Global, word: &str) -> Result<Vec<u8>, AnyError> {
     match word.strip_prefix("hex:") {
         None => Ok(word.as_bytes().to_vec(heap)?),
         Some(digits) => hexadecimal(heap, digits),

@@ -5,7 +5,7 @@ ghost use Prim.Native.Nat.{ℕ, _*_, _<_, _^_};
 ghost use Rattle.message.specs.Bits.{field, signed, unsigned, fitsSigned};
 
 // The field of some bits that are followed by others.
-pub fn field_of(payload: u64, many: u32, following: u32) -> u64
+pub(crate) fn field_of(payload: u64, many: u32, following: u32) -> u64
     requires { ⌜ many < 64 ⌝ ∗ ⌜ following < 64 ⌝ }
     ensures value { λ r. ⌜ r ≡ field many following payload ⌝ }
     ensures small { λ r. ⌜ r < 2 ^ many ⌝ }
@@ -14,7 +14,7 @@ pub fn field_of(payload: u64, many: u32, following: u32) -> u64
 }
 
 // The signed number that a field holds, of which half the values are below zero.
-pub fn to_signed(n: u64, half: u32) -> i32
+pub(crate) fn to_signed(n: u64, half: u32) -> i32
     requires { ⌜ half < 2 ^ 30 ⌝ ∗ ⌜ n < 2 * half ⌝ }
     ensures { λ r. ⌜ r ≡ signed half n ⌝ }
 {
@@ -26,7 +26,7 @@ pub fn to_signed(n: u64, half: u32) -> i32
 }
 
 // Whether a signed number fits a field of which half the values are below zero.
-pub fn fits_signed(x: i32, half: u32) -> bool
+pub(crate) fn fits_signed(x: i32, half: u32) -> bool
     requires { ⌜ half < 2 ^ 30 ⌝ }
     ensures { λ r. ⌜ r ≡ fitsSigned half x ⌝ }
 {
@@ -34,7 +34,7 @@ pub fn fits_signed(x: i32, half: u32) -> bool
 }
 
 // The field that holds a signed number.
-pub fn to_unsigned(x: i32, half: u32) -> u64
+pub(crate) fn to_unsigned(x: i32, half: u32) -> u64
     requires { ⌜ half < 2 ^ 30 ⌝ ∗ ⌜ fitsSigned half x ≡ true ⌝ }
     ensures value { λ r. ⌜ r ≡ unsigned half x ⌝ }
     ensures small { λ r. ⌜ r < 2 * half ⌝ }
