@@ -1,5 +1,7 @@
 // The worked bytes, and runs of many cases.
 #[cfg(test)]
+mod gathering;
+#[cfg(test)]
 mod layouts;
 #[cfg(test)]
 mod messages;
