@@ -60,6 +60,14 @@ fn frames_of_a_name() -> Result<(), Fail> {
     check_eq(frames(&Name, (), &[0x41, 0x80]), 120)
 }
 
+// The number of the refusal, or 0.
+fn generator(generator: u8) -> u8 {
+    match Alert::new(generator) {
+        Ok(_) => 0,
+        Err(refused) => refused.number(),
+    }
+}
+
 #[test]
 fn frames_of_an_alert() -> Result<(), Fail> {
     let alerts = Alert::new(9)?;
@@ -70,8 +78,10 @@ fn frames_of_an_alert() -> Result<(), Fail> {
     check_eq(frames(&alerts, head, &LETTERS[0..7]), 2)?;
     check_eq(frames(&alerts, head, &LETTERS[0..381]), 64)?;
     check_eq(frames(&alerts, head, &LETTERS[0..382]), 119)?;
-    check_eq(Alert::new(8).is_err(), true)?;
-    check_eq(Alert::new(129).is_err(), true)
+    check_eq(generator(1), 0)?;
+    check_eq(generator(8), 23)?;
+    check_eq(generator(127), 0)?;
+    check_eq(generator(129), 23)
 }
 
 #[test]
