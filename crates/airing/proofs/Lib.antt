@@ -1,0 +1,5 @@
+pub mod Texts
+pub mod Turns
+pub mod Changes
+pub mod Rounding
+pub mod Steps

@@ -1,0 +1,23 @@
+// A place of the card: the record accepted last, and whether it is on air.
+mod calls;
+mod questions;
+mod rounds;
+
+use family::family::Family;
+use family::text::Record;
+use family::text::RecordClone;
+
+#[derive(Clone, Copy)]
+struct Current<H> {
+    record: Record<H>,
+    sequence: u8,
+    // The number of the frame that is drawn next.
+    next: usize,
+}
+
+#[derive(Drop)]
+pub struct Place<F: Family> {
+    family: F,
+    current: Option<Current<F::Head>>,
+    on_air: bool,
+}
