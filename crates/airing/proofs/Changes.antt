@@ -15,7 +15,7 @@ use Rattle.family.specs.Meaning.{Meaning, RecordOf, Laws, Fit, Bytes, equalReco
 use Rattle.airing.specs.Calls.{Call, stored, withdrawn, drawn, lastAccepted, isUnequalTo, isChange, changes, onAir}
 use Rattle.airing.specs.Due.{currentAfter, currentDue, sequenceAfter}
 use Rattle.airing.specs.Agrees.{LawfulRecords}
-use Rattle.airing.specs.Steps.{recordOf, sequenceNext}
+use Rattle.airing.specs.Steps.{recordOf, nextSequence}
 use Rattle.airing.proofs.Texts.{equal-alike}
 use Rattle.airing.proofs.Turns.{successor-mod}
 
@@ -43,7 +43,7 @@ accepted-if-on-air (withdrawn ∷ h) on e = let z : _≡_ {A = ℕ} 0 1 = cc in 
 accepted-if-on-air (drawn ∷ h) on e = accepted-if-on-air h on e
 
 -- the latest change's sequence number, once more
-pub next-sequence : {S T : Type 0} (m : Meaning S T) (laws : Laws m) (s : S) (cs : List (RecordOf T)) (n : ℕ) → sequenceNext (m .modulus) (currentAfter m s cs n) ≡ sequenceAfter m cs
+pub next-sequence : {S T : Type 0} (m : Meaning S T) (laws : Laws m) (s : S) (cs : List (RecordOf T)) (n : ℕ) → nextSequence (m .modulus) (currentAfter m s cs n) ≡ sequenceAfter m cs
 next-sequence m laws s [] n = sym (zero-mod (m .modulus))
 next-sequence m laws s (r ∷ rs) n = rw (← add-one (length rs)) (successor-mod (length rs) (m .modulus) (omega (arith, laws .modulus-low)))
 

@@ -7,7 +7,6 @@ use Prim.Native.Nat.{ℕ, _+_, _%_, _<_}
 use native.Mathlib.Omega.{arith}
 use native.Mathlib.Nat.{mod-lt, zero-mod}
 use lib.ListN.{length, getD}
-use lib.Dec.{ltb}
 use Rattle.std.specs.declared.option.Option.{Option}
 use Rattle.std.specs.declared.option.Option.the-variants.{Some, None}
 use Rattle.std.specs.declared.result.Result.the-variants.{Ok}
@@ -21,8 +20,8 @@ use Rattle.airing.specs.declared.stored.Stored.{Stored}
 use Rattle.airing.specs.declared.stored.Stored.the-variants.{Changed, Unchanged}
 use Rattle.airing.specs.Calls.{Call, stored, drawn, isUnequalTo, isChange, changes, onAir, framesGiven}
 use Rattle.airing.specs.Due.{CurrentOf, sequenceAfter, currentAfter, currentDue}
-use Rattle.airing.specs.Agrees.{Agrees, Accepted, Drawn, currentView}
-use Rattle.airing.specs.Steps.{recordOf, successorIn, replacedBy, acceptedAfter}
+use Rattle.airing.specs.Agrees.{Agrees, Accepted, Drawn, currentView, heldView}
+use Rattle.airing.specs.Steps.{recordOf, replacedBy, acceptedAfter, advancedIn}
 use Rattle.airing.proofs.Turns.{successor-mod}
 use Rattle.airing.proofs.Changes.{next-sequence, change-test, on-air-stands, stands-fit}
 use Rattle.airing.proofs.Rounding.{round}
@@ -41,14 +40,14 @@ module _ {S T : Type 0} (m : Meaning S T) (laws : Laws m) (s : S) (c : CurrentOf
 
 -- one more draw, and the frame after the next is next
 steps : {S T : Type 0} (m : Meaning S T) (s : S) (cs : List (RecordOf T)) (n : ℕ) (c : CurrentOf T) → currentAfter m s cs n ≡ Some c → 0 < length (m .cut s (c .«record») (c .sequence)) →
-    currentAfter m s cs (n + 1) ≡ Some (record { «record» = c .«record»; sequence = c .sequence; next = successorIn (length (m .cut s (c .«record») (c .sequence))) (c .next) })
+    currentAfter m s cs (n + 1) ≡ Some (advancedIn (length (m .cut s (c .«record») (c .sequence))) c)
 steps m s [] n c e l = absurd (let z : _≡_ {A = ℕ} 0 1 = cc in omega arith)
 steps {S} {T} m s (r ∷ rs) n c e l =
     let q = sequenceAfter m rs in
     let xs = m .cut s r q in
     let d : CurrentOf T = record { «record» = r; sequence = q; next = n % length xs } in
     let is : d ≡ c = cc in
-    let P : CurrentOf T → Type 0 = λ v. 0 < length (m .cut s (v .«record») (v .sequence)) → currentAfter m s (r ∷ rs) (n + 1) ≡ Some (record { «record» = v .«record»; sequence = v .sequence; next = successorIn (length (m .cut s (v .«record») (v .sequence))) (v .next) }) in
+    let P : CurrentOf T → Type 0 = λ v. 0 < length (m .cut s (v .«record») (v .sequence)) → currentAfter m s (r ∷ rs) (n + 1) ≡ Some (advancedIn (length (m .cut s (v .«record») (v .sequence))) v) in
     let there : P d = λ some. ap (λ (j : ℕ). Some (record { «record» = r; sequence = q; next = j })) (sym (successor-mod n (length xs) some)) in
     subst P is there l
 
@@ -59,7 +58,7 @@ on-air-parts false o a e = absurd (let z : _≡_ {A = ℕ} 0 1 = cc in omega ari
 
 module _ {S T : Type 0} (m : Meaning S T) (s : S) (h : List (Call T)) (p : Place S T) (k : Agrees m s h p) where
   -- a place on air holds a record
-  held-if-on-air : onAir h ≡ true → currentView (p .current) ≡ None → ⊥
+  held-if-on-air : onAir h ≡ true → heldView (p .current) ≡ None → ⊥
   held-if-on-air on e =
       let st = on-air-stands m s h (k .records-lawful) on in
       let f : None ≡ currentAfter m s (st .latest ∷ st .earlier) (framesGiven h) = sym e ∙ k .current-is ∙ ap (λ cs. currentAfter m s cs (framesGiven h)) (st .changes-are) in
@@ -68,7 +67,7 @@ module _ {S T : Type 0} (m : Meaning S T) (s : S) (h : List (Call T)) (p : Place
   off-air : cond (p .«on_air») (p .current) None ≡ None → onAir h ≡ false
   off-air e =
       elim (cases-bool (onAir h)) [
-        | inl on ↦ absurd (held-if-on-air on (ap currentView (let f : p .current ≡ None = sym (rw (k .on-air-is ∙ on) refl) ∙ e in f)))
+        | inl on ↦ absurd (held-if-on-air on (ap heldView (let f : p .current ≡ None = sym (rw (k .on-air-is ∙ on) refl) ∙ e in f)))
         | inr off ↦ off
       ]
 
@@ -96,8 +95,8 @@ module _ {S T : Type 0} (m : Meaning S T) (s : S) (h : List (Call T)) (p : Place
       (okPart (countDue m (p .family) (recordView (v .«record»))) ≡ None → ⊥) × (okPart (frameDue m (p .family) (recordView (v .«record»)) (v .sequence) (v .next)) ≡ None → ⊥)
   refused-none laws v e =
       let a = on-air-parts (p .«on_air») (p .current) v e in
-      let c : CurrentOf T = record { «record» = recordView (v .«record»); sequence = v .sequence; next = v .next } in
-      let f = on-air-fits laws c (sym (k .on-air-is) ∙ a .0) (sym (k .current-is) ∙ ap currentView (a .1)) in (
+      let c = currentView v in
+      let f = on-air-fits laws c (sym (k .on-air-is) ∙ a .0) (sym (k .current-is) ∙ ap heldView (a .1)) in (
         (λ none. let is = ap (λ v. okPart (countDue m v (c .«record»))) (k .family-is) ∙ ap okPart (count-due m laws s c f) in let z : _≡_ {A = ℕ} 0 1 = cc (none, is) in omega arith),
         (λ none. let is = ap (λ v. okPart (frameDue m v (c .«record») (c .sequence) (c .next))) (k .family-is) ∙ ap okPart (frame-due m laws s c f) in let z : _≡_ {A = ℕ} 0 1 = cc (none, is) in omega arith),
       )
@@ -110,8 +109,8 @@ module _ {S T : Type 0} (m : Meaning S T) (s : S) (h : List (Call T)) (p p′ : 
       rw (e, zero-mod (length (m .cut s r (sequenceAfter m (changes h))))) (ap (λ (q : ℕ). Some (record { «record» = r; sequence = q; next = 0 })) (next-sequence m laws s (changes h) (framesGiven h)))
   current-next laws r false e = rw e refl
 
-  pub accepted : (laws : Laws m) (r : RecordOf T) (a : Stored) → m .refusal s r ≡ None → Bytes (r .text) → a ≡ cond (isUnequalTo (recordOf (currentView (p .current))) r) Changed Unchanged →
-      p′ .family ≡ p .family → currentView (p′ .current) ≡ acceptedAfter (m .modulus) (currentView (p .current)) r → p′ .«on_air» ≡ true → Accepted m s h r (Ok a) p′
+  pub accepted : (laws : Laws m) (r : RecordOf T) (a : Stored) → m .refusal s r ≡ None → Bytes (r .text) → a ≡ cond (isUnequalTo (recordOf (heldView (p .current))) r) Changed Unchanged →
+      p′ .family ≡ p .family → heldView (p′ .current) ≡ acceptedAfter (m .modulus) (heldView (p .current)) r → p′ .«on_air» ≡ true → Accepted m s h r (Ok a) p′
   accepted laws r a lawful bytes answer family current on =
       let test : isUnequalTo (recordOf (currentDue m s h)) r ≡ isChange h r = change-test m s h r (k .records-lawful) in
       record {
@@ -127,12 +126,12 @@ module _ {S T : Type 0} (m : Meaning S T) (s : S) (h : List (Call T)) (p p′ : 
   -- v is on air, n the count that the family tells, and x the frame that it gives
   pub drew : (laws : Laws m) (v : Current T) (n x : ℕ) → cond (p .«on_air») (p .current) None ≡ Some v →
       okPart (countDue m (p .family) (recordView (v .«record»))) ≡ Some n → okPart (frameDue m (p .family) (recordView (v .«record»)) (v .sequence) (v .next)) ≡ Some x →
-      p′ .family ≡ p .family → currentView (p′ .current) ≡ Some (record { «record» = recordView (v .«record»); sequence = v .sequence; next = successorIn n (v .next) }) → p′ .«on_air» ≡ p .«on_air» → Drawn m s h (Some x) p′
+      p′ .family ≡ p .family → heldView (p′ .current) ≡ Some (advancedIn n (currentView v)) → p′ .«on_air» ≡ p .«on_air» → Drawn m s h (Some x) p′
   drew laws v n x e count frame family stepped air =
       let a = on-air-parts (p .«on_air») (p .current) v e in
-      let c : CurrentOf T = record { «record» = recordView (v .«record»); sequence = v .sequence; next = v .next } in
+      let c = currentView v in
       let on : onAir h ≡ true = sym (k .on-air-is) ∙ a .0 in
-      let due : currentDue m s h ≡ Some c = sym (k .current-is) ∙ ap currentView (a .1) in
+      let due : currentDue m s h ≡ Some c = sym (k .current-is) ∙ ap heldView (a .1) in
       let f = on-air-fits m s h p k laws c on due in
       let xs = m .cut s (c .«record») (c .sequence) in
       let n-is : _≡_ {A = Option ℕ} (Some (length xs)) (Some n) = sym (ap okPart (count-due m laws s c f)) ∙ ap (λ v. okPart (countDue m v (c .«record»))) (sym (k .family-is)) ∙ count in
@@ -143,7 +142,7 @@ module _ {S T : Type 0} (m : Meaning S T) (s : S) (h : List (Call T)) (p p′ : 
         agrees = record {
           family-is = family ∙ k .family-is;
           records-lawful = k .records-lawful;
-          current-is = rw on (stepped ∙ ap (λ (j : ℕ). Some (record { «record» = c .«record»; sequence = c .sequence; next = successorIn j (c .next) })) length-is ∙ sym (steps m s (changes h) (framesGiven h) c due (omega (arith, f .within))));
+          current-is = rw on (stepped ∙ ap (λ (j : ℕ). Some (advancedIn j c)) length-is ∙ sym (steps m s (changes h) (framesGiven h) c due (omega (arith, f .within))));
           on-air-is = air ∙ k .on-air-is;
         };
         each-once = round m laws s (drawn ∷ h) (k .records-lawful);

@@ -16,10 +16,14 @@ use Rattle.airing.specs.Calls.{Call, stored, withdrawn, drawn, onAir}
 use Rattle.airing.specs.Due.{CurrentOf, answerDue, currentDue, frameDrawn}
 use Rattle.airing.specs.Rounds.{Round, EachFrameOnce}
 
--- What a place holds of its current record.
-abbrev pub currentView : {T : Type 0} → Option (Current T) → Option (CurrentOf T)
-currentView None = None
-currentView (Some c) = Some (record { «record» = recordView (c .«record»); sequence = c .sequence; next = c .next })
+-- The current record, by the bytes of its text.
+abbrev pub currentView : {T : Type 0} → Current T → CurrentOf T
+currentView c = record { «record» = recordView (c .«record»); sequence = c .sequence; next = c .next }
+
+-- What a place holds.
+abbrev pub heldView : {T : Type 0} → Option (Current T) → Option (CurrentOf T)
+heldView None = None
+heldView (Some c) = Some (currentView c)
 
 -- Every record accepted is lawful, and its text is bytes.
 abbrev pub LawfulRecords : {S T : Type 0} → Meaning S T → S → List (Call T) → Type 0
@@ -32,7 +36,7 @@ LawfulRecords m s (drawn ∷ h) = LawfulRecords m s h
 pub record Agrees {S T : Type 0} (m : Meaning S T) (s : S) (h : List (Call T)) (p : Place S T) : Type 0 where
   pub family-is : p .family ≡ s
   pub records-lawful : LawfulRecords m s h
-  pub current-is : currentView (p .current) ≡ currentDue m s h
+  pub current-is : heldView (p .current) ≡ currentDue m s h
   pub on-air-is : p .«on_air» ≡ onAir h
 
 -- The record r was accepted after h: the answer is the one due, and the place agrees with the longer list.

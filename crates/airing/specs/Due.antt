@@ -24,26 +24,26 @@ pub record CurrentOf (T : Type 0) : Type 0 where
 abbrev pub sequenceAfter : {S T : Type 0} → Meaning S T → List (RecordOf T) → ℕ
 sequenceAfter m earlier = length earlier % m .modulus
 
--- The record of the latest change, after n draws gave frames of it: frame n modulo their number is next.
+-- The record of the latest change, after n draws gave a frame of it: its next frame is n modulo the number of its frames.
 abbrev pub currentAfter : {S T : Type 0} → Meaning S T → S → List (RecordOf T) → ℕ → Option (CurrentOf T)
 currentAfter m s [] n = None
 currentAfter m s (r ∷ earlier) n = Some (record { «record» = r; sequence = sequenceAfter m earlier; next = n % length (m .cut s r (sequenceAfter m earlier)) })
 
--- The current record, on air or not.
+-- The current record, which is that of the latest change, on air or not.
 abbrev pub currentDue : {S T : Type 0} → Meaning S T → S → List (Call T) → Option (CurrentOf T)
 currentDue m s h = currentAfter m s (changes h) (framesGiven h)
 
--- Its sequence number.
+-- The sequence number of the current record, if there is one.
 abbrev pub sequenceOf : {T : Type 0} → Option (CurrentOf T) → Option ℕ
 sequenceOf None = None
 sequenceOf (Some c) = Some (c .sequence)
 
--- Its cut under that sequence number.
+-- The cut of the current record under its sequence number.
 abbrev pub cutOf : {S T : Type 0} → Meaning S T → S → Option (CurrentOf T) → List ℕ
 cutOf m s None = []
 cutOf m s (Some c) = m .cut s (c .«record») (c .sequence)
 
--- Its next frame.
+-- The next frame of the current record.
 abbrev pub nextOf : {S T : Type 0} → Meaning S T → S → Option (CurrentOf T) → Option ℕ
 nextOf m s None = None
 nextOf m s (Some c) = Some (getD (m .cut s (c .«record») (c .sequence)) (c .next) 0)

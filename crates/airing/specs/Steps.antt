@@ -18,14 +18,18 @@ abbrev pub successorIn : ℕ → ℕ → ℕ
 successorIn count n = cond (ltb (n + 1) count) (n + 1) 0
 
 -- The sequence number after that of the current record; the first is 0.
-abbrev pub sequenceNext : {T : Type 0} → ℕ → Option (CurrentOf T) → ℕ
-sequenceNext modulus None = 0
-sequenceNext modulus (Some c) = successorIn modulus (c .sequence)
+abbrev pub nextSequence : {T : Type 0} → ℕ → Option (CurrentOf T) → ℕ
+nextSequence modulus None = 0
+nextSequence modulus (Some c) = successorIn modulus (c .sequence)
 
 -- The record r in place of the current one, from its frame 0.
 abbrev pub replacedBy : {T : Type 0} → ℕ → Option (CurrentOf T) → RecordOf T → CurrentOf T
-replacedBy modulus o r = record { «record» = r; sequence = sequenceNext modulus o; next = 0 }
+replacedBy modulus o r = record { «record» = r; sequence = nextSequence modulus o; next = 0 }
 
 -- The current record after r was accepted: as it was if it equals r, and else r.
 abbrev pub acceptedAfter : {T : Type 0} → ℕ → Option (CurrentOf T) → RecordOf T → Option (CurrentOf T)
 acceptedAfter modulus o r = cond (isUnequalTo (recordOf o) r) (Some (replacedBy modulus o r)) o
+
+-- One frame further in a round of so many.
+abbrev pub advancedIn : {T : Type 0} → ℕ → CurrentOf T → CurrentOf T
+advancedIn count c = record { «record» = c .«record»; sequence = c .sequence; next = successorIn count (c .next) }

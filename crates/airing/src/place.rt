@@ -1,12 +1,12 @@
 // A place of the card: the record accepted last, and whether it is on air.
 mod calls;
 mod questions;
-mod rounds;
 
 use family::family::Family;
 use family::text::Record;
 use family::text::RecordClone;
 
+// The record of the latest change.
 #[derive(Clone, Copy)]
 struct Current<H> {
     record: Record<H>,

@@ -10,11 +10,10 @@ ghost use Rattle.family.specs.Meaning.{frameDue};
 ghost use Rattle.family.specs.Texts.{recordView};
 ghost use Rattle.airing.specs.Calls.{Call, withdrawn, isUnequalTo};
 ghost use Rattle.airing.specs.declared.stored.Stored.the-variants.{Changed, Unchanged};
-ghost use Rattle.airing.specs.Agrees.{Agrees, Accepted, Drawn, currentView};
-ghost use Rattle.airing.specs.Steps.{recordOf, sequenceNext, successorIn, replacedBy, acceptedAfter};
+ghost use Rattle.airing.specs.Agrees.{Agrees, Accepted, Drawn, currentView, heldView};
+ghost use Rattle.airing.specs.Steps.{recordOf, nextSequence, successorIn, replacedBy, acceptedAfter, advancedIn};
 use crate::place::Current;
 use crate::place::Place;
-use crate::place::rounds::successor;
 use crate::stored::Stored;
 use family::family::Family;
 use family::family::Payload;
@@ -62,6 +61,7 @@ impl<F: Family> Place<F> {
         ensures unchanged { λ r. ⌜ (r ≡ None → now (self .exit) ≡ now (self .entry)) ⌝ }
     {
         let current = self.record_on_air()?;
+        // It is lawful, so the family refuses nothing here.
         let count = self.family.frame_count(&current.record).ok()?;
         let frame = self.next_frame(&current)?;
         self.advance(current, count);
@@ -70,9 +70,9 @@ impl<F: Family> Place<F> {
 
     // Puts a lawful record on air: the last as it was, if it equals that, and else as a change.
     fn accept(&mut self, record: Record<F::Head>) -> Stored
-        ensures answer { λ r. ⌜ r ≡ cond (isUnequalTo (recordOf (currentView (now (self .entry) .current))) (recordView «record»)) Changed Unchanged ⌝ }
+        ensures answer { λ r. ⌜ r ≡ cond (isUnequalTo (recordOf (heldView (now (self .entry) .current))) (recordView «record»)) Changed Unchanged ⌝ }
         ensures family { λ _. ⌜ now (self .exit) .family ≡ now (self .entry) .family ⌝ }
-        ensures current { λ _. ⌜ currentView (now (self .exit) .current) ≡ acceptedAfter (F·Family .meaning .modulus) (currentView (now (self .entry) .current)) (recordView «record») ⌝ }
+        ensures current { λ _. ⌜ heldView (now (self .exit) .current) ≡ acceptedAfter (F·Family .meaning .modulus) (heldView (now (self .entry) .current)) (recordView «record») ⌝ }
         ensures on_air { λ _. ⌜ now (self .exit) .«on_air» ≡ true ⌝ }
     {
         if self.differs(&record) {
@@ -85,7 +85,7 @@ impl<F: Family> Place<F> {
 
     // Whether the record is unequal to the last, or the first.
     fn differs(&self, record: &Record<F::Head>) -> bool
-        ensures { λ r. ⌜ r ≡ isUnequalTo (recordOf (currentView (now (self .entry) .current))) (recordView (now («record» .entry))) ⌝ }
+        ensures { λ r. ⌜ r ≡ isUnequalTo (recordOf (heldView (now (self .entry) .current))) (recordView (now («record» .entry))) ⌝ }
     {
         match &self.current {
             Some(current) => !current.record.equals(record),
@@ -95,7 +95,7 @@ impl<F: Family> Place<F> {
 
     // The sequence number of the next change.
     fn next_sequence(&self) -> u8
-        ensures { λ r. ⌜ r ≡ sequenceNext (F·Family .meaning .modulus) (currentView (now (self .entry) .current)) ⌝ }
+        ensures { λ r. ⌜ r ≡ nextSequence (F·Family .meaning .modulus) (heldView (now (self .entry) .current)) ⌝ }
     {
         match &self.current {
             Some(current) => {
@@ -118,7 +118,7 @@ impl<F: Family> Place<F> {
     // Puts another record on air, from its frame 0.
     fn replace(&mut self, record: Record<F::Head>)
         ensures family { λ _. ⌜ now (self .exit) .family ≡ now (self .entry) .family ⌝ }
-        ensures current { λ _. ⌜ currentView (now (self .exit) .current) ≡ Some (replacedBy (F·Family .meaning .modulus) (currentView (now (self .entry) .current)) (recordView «record»)) ⌝ }
+        ensures current { λ _. ⌜ heldView (now (self .exit) .current) ≡ Some (replacedBy (F·Family .meaning .modulus) (heldView (now (self .entry) .current)) (recordView «record»)) ⌝ }
         ensures on_air { λ _. ⌜ now (self .exit) .«on_air» ≡ true ⌝ }
     {
         let sequence = self.next_sequence();
@@ -149,7 +149,7 @@ impl<F: Family> Place<F> {
     // One frame further, in a round of as many.
     fn advance(&mut self, current: Current<F::Head>, count: usize)
         ensures family { λ _. ⌜ now (self .exit) .family ≡ now (self .entry) .family ⌝ }
-        ensures current { λ _. ⌜ currentView (now (self .exit) .current) ≡ Some (record { «record» = recordView (current .«record»); sequence = current .sequence; next = successorIn count (current .next) }) ⌝ }
+        ensures current { λ _. ⌜ heldView (now (self .exit) .current) ≡ Some (advancedIn count (currentView current)) ⌝ }
         ensures on_air { λ _. ⌜ now (self .exit) .«on_air» ≡ now (self .entry) .«on_air» ⌝ }
     {
         self.current = Some(Current {
@@ -157,5 +157,16 @@ impl<F: Family> Place<F> {
             sequence: current.sequence,
             next: successor(current.next, count),
         });
+    }
+}
+
+// The number after this one of so many numbers from 0; 0 comes after the last.
+fn successor(number: usize, count: usize) -> usize
+    ensures { λ r. ⌜ r ≡ successorIn count number ⌝ }
+{
+    if number < count.saturating_sub(1) {
+        number + 1
+    } else {
+        0
     }
 }

@@ -3,7 +3,7 @@ ghost use mathlib.Core.Path.{_≡_};
 ghost use mathlib.Core.List.{List};
 ghost use Rattle.airing.specs.Calls.{Call, onAir};
 ghost use Rattle.airing.specs.Due.{currentDue, sequenceOf};
-ghost use Rattle.airing.specs.Agrees.{Agrees, currentView};
+ghost use Rattle.airing.specs.Agrees.{Agrees, heldView};
 use crate::place::Current;
 use crate::place::Place;
 use family::family::Family;
@@ -32,7 +32,7 @@ impl<F: Family> Place<F> {
 }
 
 fn sequence_of<H: Copy>(current: &Option<Current<H>>) -> Option<u8>
-    ensures { λ r. ⌜ r ≡ sequenceOf (currentView (now (current .entry))) ⌝ }
+    ensures { λ r. ⌜ r ≡ sequenceOf (heldView (now (current .entry))) ⌝ }
 {
     match current {
         Some(current) => Some(current.sequence),
