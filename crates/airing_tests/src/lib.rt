@@ -1,4 +1,6 @@
 // A place over the small family of the gatherer's tests.
+#![tactic(auto)]
+
 pub mod round;
 #[cfg(test)]
 mod tests;

@@ -1,2 +1,4 @@
 // The card: it puts the texts of three places on air, in PDUs.
+#![tactic(auto)]
+
 pub mod card;

@@ -1,4 +1,6 @@
 // A card and a monitor over the three layouts: calls with their answers.
+#![tactic(auto)]
+
 #[cfg(test)]
 mod card_tests;
 #[cfg(test)]

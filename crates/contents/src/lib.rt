@@ -1,4 +1,6 @@
 // What a PDU says: its contents, read from ten bytes and written to them.
+#![tactic(auto)]
+
 mod area;
 pub mod codec;
 pub mod contents;

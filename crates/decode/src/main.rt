@@ -1,4 +1,6 @@
 // Says what PDUs say: a line of hexadecimal digits for each, from standard input.
+#![tactic(auto)]
+
 mod line;
 mod words;
 

@@ -1,4 +1,6 @@
 // Runs the exercise of the bench course, and prints what a marker wants to see.
+#![tactic(auto)]
+
 mod arguments;
 mod quoted;
 mod report;

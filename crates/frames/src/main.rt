@@ -1,4 +1,6 @@
 // Prints the PDUs that carry a text, in hexadecimal, ready for decode.
+#![tactic(auto)]
+
 mod arguments;
 
 use alert::alert::{Alert, AlertHead};

@@ -1,4 +1,6 @@
 // Bytes spelled by hexadecimal digits, read a character at a time.
+#![tactic(auto)]
+
 ghost use Rattle.std.specs.Prelude.{◌≡◌, ◌<◌, IfSome};
 ghost use Rattle.hexadecimal.specs.Hexadecimal.{digit_of, reading_of};
 

@@ -1,4 +1,6 @@
 // One message of a PDU: its number, and what its payload says.
+#![tactic(auto)]
+
 mod bits;
 pub mod location;
 pub mod message;

@@ -1,4 +1,6 @@
 // The ten bytes of a PDU: their fields, their check, and the refusals of the whole product.
+#![tactic(auto)]
+
 pub mod check;
 pub mod fields;
 pub mod pdu;

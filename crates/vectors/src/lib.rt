@@ -1,4 +1,6 @@
 // The worked bytes, and runs of many cases.
+#![tactic(auto)]
+
 #[cfg(test)]
 mod gathering;
 #[cfg(test)]

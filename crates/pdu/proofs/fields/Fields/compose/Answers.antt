@@ -8,8 +8,8 @@ use Rattle.pdu.proofs.fields.Fields.compose.Goals as goal
 pub returns : goal.returns
 returns c =
     let f = c.args.self in
-    let n : c.unchecked-number-n.result ≡ unchecked_number f = c.unchecked-number-n.ensures.value in
+    let n : c.unchecked_number-n.result ≡ unchecked_number f = c.unchecked_number-n.ensures.value in
     let whole : fit f ≡ true = sym c.fits.ensures ∙ c.if-not-fits.false in
-    let check : c.from.result ≡ check_of (bytes_of c.unchecked-number-n.result) = c.from.ensures ∙ c.check-check.ensures.value ∙ ap (λ p. check_of p.bytes) c.from-number.ensures in
-    let value = ap Ok (c.from-number-2.ensures ∙ ap (λ k. record { bytes = bytes_of (c.unchecked-number-n.result + k) }) check ∙ ap checked n) ∙ sym (composed_right f whole) in
+    let check : c.from.result ≡ check_of (bytes_of c.unchecked_number-n.result) = c.from.ensures ∙ c.check-check.ensures.value ∙ ap (λ p. check_of p.bytes) c.from_number.ensures in
+    let value = ap Ok (c.from_number-2.ensures ∙ ap (λ k. record { bytes = bytes_of (c.unchecked_number-n.result + k) }) check ∙ ap checked n) ∙ sym (composed_right f whole) in
     record { value = value; read_again = λ p e. parsed_again f p (sym value ∙ e) }

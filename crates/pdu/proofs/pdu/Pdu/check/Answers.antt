@@ -13,7 +13,7 @@ pub loop-i-preserved : goal.loop-i-preserved
 loop-i-preserved c =
     let bs = c.args.self.bytes in
     let i = c.loop-i.i in
-    let told = c.bring-down-remainder.ensures in (
+    let told = c.bring_down-remainder.ensures in (
       ap (λ r. divided 12 6155 r (down_from (coefficient bs) (i - 1))) (told.value ∙ ap (λ b. lowered 12 6155 (c.loop-i.remainder * 2 + b)) c.coefficient.ensures.value)
           ∙ sym (next (coefficient bs) c.loop-i.remainder i (omega arith)) ∙ c.loop-i.invariant.0,
       told.small,
