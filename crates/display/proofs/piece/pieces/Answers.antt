@@ -14,4 +14,4 @@ two-parts o n k t none e =
     ∙ ap (λ (m : ℕ). Ok (pieces_of m t)) e ∙ ap (λ (x : Option Refusal). unless x (Ok (pieces_of k t))) (sym none)
 
 pub returns : goal.returns
-returns c = two-parts _ c.from-place.result c.args.head.control_length c.args.bytes.now (sym c.refusal-of.ensures ∙ c.in-default.is) c.from-place.ensures
+returns c = two-parts _ c.from-place.result c.args.head.control_length c.args.bytes.now (sym c.refusal_of.ensures ∙ c.in-default.is) c.from-place.ensures

@@ -11,14 +11,14 @@ pub returns : goal.returns
 returns c s h k head e =
     let r = record_view c.args.record.now in
     let q = c.args.sequence in
-    let a = c.in-ok-first.first in
-    let b = c.in-ok-second.second in
-    let first = given s r q 0 a (sym c.frame.ensures ∙ c.in-ok-first.was) in
-    let second = given s r q 1 b (sym c.frame-2.ensures ∙ c.in-ok-second.was) in
+    let a = c.in_ok-first.first in
+    let b = c.in_ok-second.second in
+    let first = given s r q 0 a (sym c.frame.ensures ∙ c.in_ok-first.was) in
+    let second = given s r q 1 b (sym c.frame-2.ensures ∙ c.in_ok-second.was) in
     let fit : Fit meaning_of_two s r q = record { record_fits = first.0; bytes_fit = bytes_of_text c.args.record.now.text; sequence_fits = first.1 } in
     let lawful_a : meaning_of_two.lawful s a ≡ true = subst (λ (x : ℕ). meaning_of_two.lawful s x ≡ true) (sym first.2) (keeps.cut_lawful s r q 0 fit (omega arith)) in
     let lawful_b : meaning_of_two.lawful s b ≡ true = subst (λ (x : ℕ). meaning_of_two.lawful s x ≡ true) (sym second.2) (keeps.cut_lawful s r q 1 fit (omega arith)) in
     let then = c.offer.ensures.taken s h k lawful_b in
     let both = c.offer-2.ensures.taken s (accepted b ∷ h) then.agrees lawful_a in
-    let shown : c.shown-head.result ≡ Ok r.head = (c.shown-head.ensures s (accepted a ∷ accepted b ∷ h) both.agrees).heard r (both_heard s h r q a b fit first.2 second.2) in
+    let shown : c.shown_head.result ≡ Ok r.head = (c.shown_head.ensures s (accepted a ∷ accepted b ∷ h) both.agrees).heard r (both_heard s h r q a b fit first.2 second.2) in
     cc

@@ -6,4 +6,4 @@ use Rattle.vectors.proofs.worked.table_is_right.Goals as goal
 
 pub returns : goal.returns
 unfolding down_from divided text_remainder
-returns c = (refl, (refl, (refl, (refl, (refl, (refl, (refl, (refl, (refl, (refl, (refl, (refl, (refl, (record { lawful = refl; cut = refl; joined = refl }, (record { lawful = refl; cut = refl; joined = refl }, (record { lawful = refl; cut = refl; joined = refl }, (refl, (refl, (refl, (refl, (refl, (refl, (refl, (refl, (refl, tt)))))))))))))))))))))))))
+returns c = (refl, (refl, (refl, (refl, (refl, (refl, (refl, (refl, (refl, (refl, (refl, (record { lawful = refl; cut = refl; joined = refl }, (record { lawful = refl; cut = refl; joined = refl }, (record { lawful = refl; cut = refl; joined = refl }, tt))))))))))))))

@@ -8,9 +8,9 @@ use Rattle.air.specs.Runs.{card_calls}
 use Rattle.air.proofs.link.Link.draw.Goals as goal
 
 -- a buffer of ten bytes is not refused
-pub returns-in-err-draw : goal.returns-in-err-draw
-returns-in-err-draw g c n m e st a k =
-    absurd (let s = (c.draw.ensures.due n m e st (card_calls a) k.card_agrees).answer_is in let was = c.in-err-draw.was in let z : ◌≡◌ {A = ℕ} 0 1 = cc in omega arith)
+pub returns-in_err-draw : goal.returns-in_err-draw
+returns-in_err-draw g c n m e st a k =
+    absurd (let s = (c.draw.ensures.due n m e st (card_calls a) k.card_agrees).answer_is in let was = c.in_err-draw.was in let z : ◌≡◌ {A = ℕ} 0 1 = cc in omega arith)
 
 pub returns : goal.returns
 returns g c n m e st a k =

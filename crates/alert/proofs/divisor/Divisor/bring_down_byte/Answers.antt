@@ -16,9 +16,9 @@ loop-k-preserved c =
     let b = c.args.byte in
     let k = c.loop-k.k in
     let x = c.loop-k.remainder in
-    let told = c.bring-down-remainder.ensures in
+    let told = c.bring_down-remainder.ensures in
     let e = at_drop_more (divided d G x) (bits_of b) k 0 (omega arith) ∙ divided_more d G x (get_or (bits_of b) k 0) (drop (k + 1) (bits_of b)) in
-    let s : c.bring-down-remainder.result ≡ lowered d G (x * 2 + get_or (bits_of b) k 0) = told.value ∙ ap (λ (y : ℕ). lowered d G (x * 2 + y)) (sym (bit_is b k (omega arith))) in
+    let s : c.bring_down-remainder.result ≡ lowered d G (x * 2 + get_or (bits_of b) k 0) = told.value ∙ ap (λ (y : ℕ). lowered d G (x * 2 + y)) (sym (bit_is b k (omega arith))) in
     (told.small, ap (λ (y : ℕ). divided d G y (drop (k + 1) (bits_of b))) s ∙ sym e ∙ c.loop-k.invariant.1)
 
 pub returns : goal.returns

@@ -13,7 +13,7 @@ loop-byte-preserved c =
     let t = c.args.bytes.now in
     let j = c.loop-byte.byte-index in
     let x = c.loop-byte.remainder in
-    let told = c.bring-down-byte-remainder.ensures in
+    let told = c.bring_down_byte-remainder.ensures in
     let rest = flat_map bits_of (drop (j + 1) t) in
     let e = at_drop_more (λ (u : List ℕ). divided d G x (flat_map bits_of u)) t j 0 c.loop-byte-test.true ∙ divided_append d G x (bits_of (get_or t j 0)) rest in
     (told.small, ap (λ (y : ℕ). divided d G y rest) told.value ∙ sym e ∙ c.loop-byte.invariant.1)
@@ -34,7 +34,7 @@ loop-zero-preserved c =
     let d = c.args.self.degree in
     let G = 2 ^ d + c.args.self.generator in
     let k = c.loop-zero.-zero in
-    let told = c.bring-down-remainder.ensures in
+    let told = c.bring_down-remainder.ensures in
     let e = divided_zero d G c.loop-zero.remainder d k (omega arith) in
     (told.small, ap (λ (y : ℕ). divided d G y (replicate (d - (k + 1)) 0)) told.value ∙ sym e ∙ c.loop-zero.invariant.1)
 

@@ -10,17 +10,17 @@ frame-requires c =
     let s = c.args.self.now in
     let r = c.args.record.now in
     let q = c.args.sequence in
-    let ok = counted alert_layout s r c.frame-count.result c.in-ok-count.count c.frame-count.ensures c.in-ok-count.was in
-    record { cuttable = cuttable alert_layout s r sound q c.fields-of-fields.result ok.0 (omega arith) c.fields-of-fields.ensures; near = near alert_layout s r sound q c.args.i ok.0 (omega arith) (omega (arith, ok.1)) }
+    let ok = counted alert_layout s r c.frame_count.result c.in_ok-count.count c.frame_count.ensures c.in_ok-count.was in
+    record { cuttable = cuttable alert_layout s r sound q c.fields_of-fields.result ok.0 (omega arith) c.fields_of-fields.ensures; near = near alert_layout s r sound q c.args.i ok.0 (omega arith) (omega (arith, ok.1)) }
 
 pub returns : goal.returns
 returns c =
     let s = c.args.self.now in
     let r = c.args.record.now in
-    let ok = counted alert_layout s r c.frame-count.result c.in-ok-count.count c.frame-count.ensures c.in-ok-count.was in
-    frame_due_lem alert_layout s r c.args.sequence c.args.i c.frame.result c.fields-of-fields.result ok.0 (omega arith) (omega (arith, ok.1)) c.fields-of-fields.ensures c.frame.ensures
+    let ok = counted alert_layout s r c.frame_count.result c.in_ok-count.count c.frame_count.ensures c.in_ok-count.was in
+    frame_due_lem alert_layout s r c.args.sequence c.args.i c.frame.result c.fields_of-fields.result ok.0 (omega arith) (omega (arith, ok.1)) c.fields_of-fields.ensures c.frame.ensures
 
-pub returns-in-err-count : goal.returns-in-err-count
-returns-in-err-count c =
-    let p = err_from_is_err_and c.from-residual.result c.from-residual.ensures.1 in
-    rw (p.1, p.2) (frame_refused alert_layout c.args.self.now c.args.record.now c.frame-count.result _ c.args.sequence c.args.i c.frame-count.ensures c.in-err-count.was)
+pub returns-in_err-count : goal.returns-in_err-count
+returns-in_err-count c =
+    let p = err_from_is_err_and c.from_residual.result c.from_residual.ensures.1 in
+    rw (p.1, p.2) (frame_refused alert_layout c.args.self.now c.args.record.now c.frame_count.result _ c.args.sequence c.args.i c.frame_count.ensures c.in_err-count.was)

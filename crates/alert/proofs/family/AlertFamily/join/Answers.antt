@@ -6,8 +6,8 @@ use Rattle.alert.specs.Alert.{alert_layout}
 use Rattle.alert.specs.Sound.{sound}
 use Rattle.alert.proofs.family.AlertFamily.join.Goals as goal
 
-pub is-cut-requires : goal.is-cut-requires
-is-cut-requires c =
-    let r : Record AlertHead = record { head = c.head-in.result; text = c.text_in.result } in
-    cuttable alert_layout c.args.self.now r sound c.sequence-in.result c.fields-of-fields.result
-    (sym c.refusal.ensures ∙ none_if c.refusal.result c.if-is-some.ensures) (omega (arith, c.sequence-in.ensures)) c.fields-of-fields.ensures
+pub is_cut-requires : goal.is_cut-requires
+is_cut-requires c =
+    let r : Record AlertHead = record { head = c.head_in.result; text = c.text_in.result } in
+    cuttable alert_layout c.args.self.now r sound c.sequence_in.result c.fields_of-fields.result
+    (sym c.refusal.ensures ∙ none_if c.refusal.result c.if-is_some.ensures) (omega (arith, c.sequence_in.ensures)) c.fields_of-fields.ensures

@@ -11,9 +11,9 @@ pub returns : goal.returns
 returns g c = record {
   due = λ n m e st a k.
       let f = families g.N.Family.meaning n g.M.Family.meaning m g.E.Family.meaning e in
-      let p = c.in-ok-pdu.pdu in
+      let p = c.in_ok-pdu.pdu in
       let d = c.draw.ensures n m e st a k.linked in
-      let drawn = sym d.answer_is ∙ c.in-ok-pdu.was in
+      let drawn = sym d.answer_is ∙ c.in_ok-pdu.was in
       let s = c.send-first.ensures.sent n m e st (card (draw 10) ∷ a) d.linked (d.linked.pdu_is ∙ ap result_ok drawn) in
       record {
         passage = record { pdu = p; fade = c.args.fade; first = c.send-first.result.0; second = c.send-first.result.1 };

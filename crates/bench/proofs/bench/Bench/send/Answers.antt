@@ -43,7 +43,7 @@ returns-in-Turned g c = record {
   sent = λ n m e st a k is.
       let f = families g.N.Family.meaning n g.M.Family.meaning m g.E.Family.meaning e in
       let p = c.args.pdu in
-      let s = subst (λ q. SpoiltSo f st a q.bytes c.hear-spoilt.result c.hear-spoilt.new.self) c.with-bit-turned-turned.ensures (c.hear-spoilt.ensures n m e st a k) in
-      subst (λ v. SentSo f st a p.bytes v (Some c.hear-spoilt.result) None c.hear-spoilt.new.self) (sym c.in-Turned.is) (sent_turned f st a p c.in-Turned.bit c.hear-spoilt.result c.hear-spoilt.new.self s);
+      let s = subst (λ q. SpoiltSo f st a q.bytes c.hear_spoilt.result c.hear_spoilt.new.self) c.with_bit_turned-turned.ensures (c.hear_spoilt.ensures n m e st a k) in
+      subst (λ v. SentSo f st a p.bytes v (Some c.hear_spoilt.result) None c.hear_spoilt.new.self) (sym c.in-Turned.is) (sent_turned f st a p c.in-Turned.bit c.hear_spoilt.result c.hear_spoilt.new.self s);
   tally = refl;
 }

@@ -15,6 +15,6 @@ returns g c = record {
   refused = λ other. absurd (other (omega arith));
   due = λ n m e st h k.
       drew (families g.N.Family.meaning n g.M.Family.meaning m g.E.Family.meaning e) st h g.met.N.Family.keeps g.met.M.Family.keeps g.met.E.Family.keeps c.args.buffer.now c.write.new.buffer c.write.result
-      c.args.self.now c.next-contents-contents.new.self c.next-contents-contents.result (omega arith) k (c.next-contents-contents.ensures.due n m e st h k) (c.next-contents-contents.ensures.agrees n m e st h k)
+      c.args.self.now c.next_contents-contents.new.self c.next_contents-contents.result (omega arith) k (c.next_contents-contents.ensures.due n m e st h k) (c.next_contents-contents.ensures.agrees n m e st h k)
       c.write.ensures.value c.write.ensures.after c.write.ensures.read_again;
 }

@@ -7,8 +7,8 @@ use Rattle.contents.proofs.contents.Contents.decode.Goals as goal
 
 pub returns : goal.returns
 returns c =
-    let f = c.in-ok-fields.fields in
+    let f = c.in_ok-fields.fields in
     record {
       value = search rules;
-      written_again = λ d e. then_ok (fields_of d) f composed (fields_again f d (sym c.from-fields.ensures ∙ e)) ∙ c.parse.ensures.written_again f c.in-ok-fields.was;
+      written_again = λ d e. then_ok (fields_of d) f composed (fields_again f d (sym c.from_fields.ensures ∙ e)) ∙ c.parse.ensures.written_again f c.in_ok-fields.was;
     }

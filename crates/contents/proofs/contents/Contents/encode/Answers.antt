@@ -6,6 +6,6 @@ use Rattle.contents.proofs.contents.Contents.encode.Goals as goal
 
 pub returns : goal.returns
 returns c =
-    let f = c.in-ok-fields.fields in
-    let again = c.fields.ensures.read_again f c.in-ok-fields.was in
+    let f = c.in_ok-fields.fields in
+    let again = c.fields.ensures.read_again f c.in_ok-fields.was in
     record { value = search rules; read_again = λ p e. then_ok (fields_in p) f contents_of (c.compose.ensures.read_again p e) ∙ again }

@@ -9,12 +9,12 @@ use Rattle.contents.proofs.contents.Contents.one_written.Goals as goal
 pub returns : goal.returns
 returns c =
     let contents = c.args.self in
-    let size = c.in-ok-size.size in
-    let payload = c.in-ok-payload.payload in
-    let told : first_size false (number_of contents.first) ≡ Ok size = ap (first_size false) (sym c.number.ensures) ∙ sym c.first-size.ensures.value ∙ c.in-ok-size.was in
-    let again = c.payload.ensures.read_again payload c.in-ok-payload.was in
-    let fields : c.fields-with.result ≡ fields_with contents false (joined payload (58 - size) 0) = c.fields-with.ensures ∙ ap (fields_with contents false) c.join.ensures.value in
+    let size = c.in_ok-size.size in
+    let payload = c.in_ok-payload.payload in
+    let told : first_size false (number_of contents.first) ≡ Ok size = ap (first_size false) (sym c.number.ensures) ∙ sym c.first_size.ensures.value ∙ c.in_ok-size.was in
+    let again = c.payload.ensures.read_again payload c.in_ok-payload.was in
+    let fields : c.fields_with.result ≡ fields_with contents false (joined payload (58 - size) 0) = c.fields_with.ensures ∙ ap (fields_with contents false) c.join.ensures.value in
     record {
       value = search rules;
-      read_again = λ f e. let same : c.fields-with.result ≡ f = cc in ap contents_of (sym same ∙ fields) ∙ one_read contents size payload told again;
+      read_again = λ f e. let same : c.fields_with.result ≡ f = cc in ap contents_of (sym same ∙ fields) ∙ one_read contents size payload told again;
     }

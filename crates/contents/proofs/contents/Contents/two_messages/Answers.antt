@@ -9,4 +9,4 @@ returns c =
     let width : 58 - size - 4 ≡ 54 - size = omega arith in
     let number = c.split-number.ensures.upper ∙ ap₂ upper width c.split-behind.ensures.rest in
     let area = c.split-number.ensures.rest ∙ ap₂ lower width c.split-behind.ensures.rest in
-    c.second-message.ensures ∙ ap₂ (second_message c.args.fields size) number area
+    c.second_message.ensures ∙ ap₂ (second_message c.args.fields size) number area

@@ -8,7 +8,7 @@ pub loop-j-init : goal.loop-j-init
 loop-j-init c = filled_none (λ k. get_or c.args.bytes.now k 0)
 
 pub loop-j-preserved : goal.loop-j-preserved
-loop-j-preserved c = filled_more (λ k. get_or c.args.bytes.now k 0) c.loop-j.copied c.loop-j.j (get_or c.args.bytes.now c.loop-j.j 0) c.loop-j.invariant (omega arith) (omega (arith, c.type-inv.bytes c.loop-j.j)) refl
+loop-j-preserved c = filled_more (λ k. get_or c.args.bytes.now k 0) c.loop-j.copied c.loop-j.j (get_or c.args.bytes.now c.loop-j.j 0) c.loop-j.invariant (omega arith) (omega (arith, c.type_inv.bytes c.loop-j.j)) refl
 
 pub returns : goal.returns
 returns c =

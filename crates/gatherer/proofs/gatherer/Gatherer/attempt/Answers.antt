@@ -8,13 +8,13 @@ use Rattle.gatherer.specs.Due.{outcome, joined_outcome}
 use Rattle.gatherer.proofs.Slots.{below_held, below_empty}
 use Rattle.gatherer.proofs.gatherer.Gatherer.attempt.Goals as goal
 
-pub returns-then-not-holds-all : goal.returns-then-not-holds-all
-returns-then-not-holds-all g c s h k =
+pub returns-then-not-holds_all : goal.returns-then-not-holds_all
+returns-then-not-holds_all g c s h k =
     let m = g.F.Family.meaning in
     let xs = series m s h in
     let n = c.in-Some.count in
     let told = c.in-Some.ensures in
-    let gap = c.holds-all.ensures.some_empty c.if-not-holds-all.true in
+    let gap = c.holds_all.ensures.some_empty c.if-not-holds_all.true in
     let full : full_series m s xs ≡ None = sym (ap (frames_up_to m s xs) (told.due s h k)) ∙ below_empty m s xs c.args.self.now.table k.slots_are n gap.0 (told.few n refl) gap.1 gap.2 in
     sym (ap (outcome m s) full)
 
@@ -30,6 +30,6 @@ pub returns : goal.returns
 returns g c s h k =
     let m = g.F.Family.meaning in
     let told = c.in-Some.ensures in
-    c.at-full.ensures
+    c.at_full.ensures
     ∙ full-joins m s c.args.self.now.family (series m s h) c.args.self.now.table c.in-Some.count (join_view c.join.result) k.slots_are (told.due s h k) (told.few _ refl)
-    (c.holds-all.ensures.all c.if-not-holds-all.false) k.family_is c.join.ensures
+    (c.holds_all.ensures.all c.if-not-holds_all.false) k.family_is c.join.ensures

@@ -13,7 +13,7 @@ returns-in-default g c s h k =
 pub returns : goal.returns
 returns g c s h k =
     let found = c.args.buffer.now in
-    let copy = c.copy-to-front in
-    let text = c.as-slice.ensures in
+    let copy = c.copy_to_front in
+    let text = c.as_slice.ensures in
     text_shown g.F.Family.meaning g.met.F.Family.keeps s h (Some (record_view c.in-Some.record)) (ap join_view (sym c.in-Some.is) ∙ k.shown_is) found copy.result copy.new.buffer
     (copy.ensures.length ∙ ap (λ t. copied_length t found) text) (copy.ensures.bytes ∙ ap (λ t. copied_to t found) text)

@@ -9,5 +9,5 @@ returns-in-Some g c s h k =
     let xs = series m s h in
     let n = c.in-Some.count in
     let told = c.in-Some.ensures in
-    ap Ok (c.empty-sum.ensures ∙ empty_missing m s xs c.args.self.now.table k.holds.slots_are n (told.few n refl))
+    ap Ok (c.empty_sum.ensures ∙ empty_missing m s xs c.args.self.now.table k.holds.slots_are n (told.few n refl))
     ∙ ap (missing_up_to m s xs) (told.due s h k.holds)

@@ -13,7 +13,7 @@ returns g c =
     let x = c.args.frame in
     let t = c.take.ensures in
     let a = c.answer.ensures in
-    let ok = c.in-ok-take.was in
+    let ok = c.in_ok-take.was in
     record {
       refusal = sym (ap refusal_in ok) ∙ t.refusal;
       unchanged = λ unlawful. absurd (both_ways _ unlawful (lawful_if_taken m c.args.self.now.family x c.take.result (tt {0}) ok t.refusal));

@@ -5,8 +5,8 @@ use Rattle.layout.proofs.layout.FrameLayout.before_trailing.Goals as goal
 pub leading-leading-requires : goal.leading-leading-requires
 leading-leading-requires c = record { near = c.requires.near; room = c.requires.cuttable.fields_fit.leading_fits; some = c.requires.cuttable.fields_fit.unit_some }
 
-pub with-bytes-requires-else-i-eq0 : goal.with-bytes-requires-else-i-eq0
-with-bytes-requires-else-i-eq0 c =
+pub with_bytes-requires-else-i-eq0 : goal.with_bytes-requires-else-i-eq0
+with_bytes-requires-else-i-eq0 c =
     let s = c.args.self in
     let f = c.args.fields in
     let i = c.args.i in

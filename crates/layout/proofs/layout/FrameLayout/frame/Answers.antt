@@ -21,16 +21,16 @@ below s f t i y ok h e =
 
 pub overflow-mul-result : goal.overflow-mul-result
 overflow-mul-result c =
-    let b = below c.args.self c.args.fields c.args.text.now c.args.i c.before-trailing.result c.requires.cuttable c.requires.near c.before-trailing.ensures in
+    let b = below c.args.self c.args.fields c.args.text.now c.args.i c.before_trailing.result c.requires.cuttable c.requires.near c.before_trailing.ensures in
     record { fits = omega (arith, b) }
 
 pub overflow-add-result : goal.overflow-add-result
 overflow-add-result c =
-    let b = below c.args.self c.args.fields c.args.text.now c.args.i c.before-trailing.result c.requires.cuttable c.requires.near c.before-trailing.ensures in
+    let b = below c.args.self c.args.fields c.args.text.now c.args.i c.before_trailing.result c.requires.cuttable c.requires.near c.before_trailing.ensures in
     record { fits = omega (arith, b) }
 
 pub returns : goal.returns
 returns c =
     let s = c.args.self in
     let few : s.trailing_bits ≤ 3 = c.requires.cuttable.layout_fits.trailing_bits_few in
-    ap₂ (λ (a b : ℕ). a * b + c.args.fields.trailing) c.before-trailing.ensures (shifted s.trailing_bits (omega arith))
+    ap₂ (λ (a b : ℕ). a * b + c.args.fields.trailing) c.before_trailing.ensures (shifted s.trailing_bits (omega arith))

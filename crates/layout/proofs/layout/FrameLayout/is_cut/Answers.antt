@@ -6,12 +6,12 @@ use Rattle.layout.proofs.Equality.{apart, apart_at, together}
 use Rattle.layout.proofs.Lengths.{bytes_long}
 use Rattle.layout.proofs.layout.FrameLayout.is_cut.Goals as goal
 
-pub returns-then-frames-frame-count : goal.returns-then-frames-frame-count
-returns-then-frames-frame-count c =
+pub returns-then-frames-frame_count : goal.returns-then-frames-frame_count
+returns-then-frames-frame_count c =
     let t = bytes_of c.args.text.now in
     let s = c.args.self in
     let long = length-map-range_with_len (frame_of s c.args.fields t) 0 (frame_count s (length t)) ∙ ap (frame_count s) (bytes_long c.args.text.now) in
-    apart (cut_of s c.args.fields t) c.args.frames.now (λ e. let l = ap length e in omega (arith, l, long, c.frame-count.ensures))
+    apart (cut_of s c.args.fields t) c.args.frames.now (λ e. let l = ap length e in omega (arith, l, long, c.frame_count.ensures))
 
 pub returns-then-frame-frames : goal.returns-then-frame-frames
 returns-then-frame-frames c =
@@ -19,7 +19,7 @@ returns-then-frame-frames c =
     let s = c.args.self in
     let i = c.loop-i.i in
     let long = ap (frame_count s) (bytes_long c.args.text.now) in
-    let at = get_or-map-range_with_len (frame_of s c.args.fields t) 0 (frame_count s (length t)) i i 0 (omega (arith, long, c.frame-count.ensures)) (zero-add i) in
+    let at = get_or-map-range_with_len (frame_of s c.args.fields t) 0 (frame_count s (length t)) i i 0 (omega (arith, long, c.frame_count.ensures)) (zero-add i) in
     apart_at (cut_of s c.args.fields t) c.args.frames.now i (λ e. omega (arith, at, e, c.frame.ensures))
 
 pub returns : goal.returns
@@ -28,8 +28,8 @@ returns c =
     let s = c.args.self in
     let long = length-map-range_with_len (frame_of s c.args.fields t) 0 (frame_count s (length t)) in
     let len = ap (frame_count s) (bytes_long c.args.text.now) in
-    together (cut_of s c.args.fields t) c.args.frames.now (omega (arith, long, len, c.frame-count.ensures))
-    (λ i h. get_or-map-range_with_len (frame_of s c.args.fields t) 0 (frame_count s (length t)) i i 0 (omega (arith, h, long)) (zero-add i) ∙ c.loop-i.invariant i (omega (arith, h, long, len, c.frame-count.ensures)))
+    together (cut_of s c.args.fields t) c.args.frames.now (omega (arith, long, len, c.frame_count.ensures))
+    (λ i h. get_or-map-range_with_len (frame_of s c.args.fields t) 0 (frame_count s (length t)) i i 0 (omega (arith, h, long)) (zero-add i) ∙ c.loop-i.invariant i (omega (arith, h, long, len, c.frame_count.ensures)))
 
 pub loop-i-preserved : goal.loop-i-preserved
 loop-i-preserved c = below_more _ _ c.loop-i.invariant (sym c.frame.ensures ∙ c.if-frame-frames.false)

@@ -10,12 +10,12 @@ use Rattle.message.proofs.message.Message.parse.Goals as goal
 with_size : (n p s : ℕ) → size_of n ≡ Some s → parsed n p ≡ cond (ltb p (2 ^ s)) (message_of n p) (Err OutOfRange)
 with_size n p s e = ap (λ o. elim o [ None ↦ Err ReservedMessage | Some size ↦ cond (ltb p (2 ^ size)) (message_of n p) (Err OutOfRange) ]) e
 
-pub returns-then-payload-size : goal.returns-then-payload-size
-returns-then-payload-size c =
+pub returns-then-payload_size : goal.returns-then-payload_size
+returns-then-payload_size c =
     let n = c.args.number in
     let p = c.args.payload in
     let s = c.in-Some.size in
-    let e : size_of n ≡ Some s = sym c.payload-size.ensures ∙ c.in-Some.is in
+    let e : size_of n ≡ Some s = sym c.payload_size.ensures ∙ c.in-Some.is in
     let power = shifted s (size_small n s e) in
     let above : 2 ^ s ≤ p = omega (arith, power) in
     let value = sym (with_size n p s e ∙ cond-false (ltb p (2 ^ s)) (message_of n p) (Err OutOfRange) (le-ltb p (2 ^ s) above)) in
@@ -26,8 +26,8 @@ returns c =
     let n = c.args.number in
     let p = c.args.payload in
     let s = c.in-Some.size in
-    let e : size_of n ≡ Some s = sym c.payload-size.ensures ∙ c.in-Some.is in
+    let e : size_of n ≡ Some s = sym c.payload_size.ensures ∙ c.in-Some.is in
     let power = shifted s (size_small n s e) in
     let below : p < 2 ^ s = omega (arith, power) in
-    let value = c.parse-sized.ensures ∙ sym (with_size n p s e ∙ cond-true (ltb p (2 ^ s)) (message_of n p) (Err OutOfRange) (lt-ltb p (2 ^ s) below)) in
+    let value = c.parse_sized.ensures ∙ sym (with_size n p s e ∙ cond-true (ltb p (2 ^ s)) (message_of n p) (Err OutOfRange) (lt-ltb p (2 ^ s) below)) in
     record { value = value; written_again = λ m w. written_again n p m (sym value ∙ w) }

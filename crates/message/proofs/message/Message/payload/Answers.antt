@@ -37,11 +37,11 @@ returns-in-Parameter c = record {
 pub returns-in-Universal : goal.returns-in-Universal
 returns-in-Universal c = record {
   value = search rules;
-  read_again = λ p e. via c.args.self (Universal c.in-Universal.payload) p c.in-Universal.is (universal_read c.in-Universal.payload p (sym c.whole-area-in-Universal.ensures ∙ e));
+  read_again = λ p e. via c.args.self (Universal c.in-Universal.payload) p c.in-Universal.is (universal_read c.in-Universal.payload p (sym c.whole_area-in-Universal.ensures ∙ e));
 }
 
 pub returns-in-Frame : goal.returns-in-Frame
 returns-in-Frame c = record {
   value = search rules;
-  read_again = λ p e. via c.args.self (Frame c.in-Frame.field-0 c.in-Frame.payload) p c.in-Frame.is (frame_read c.in-Frame.field-0 c.in-Frame.payload p (sym c.whole-area.ensures ∙ e));
+  read_again = λ p e. via c.args.self (Frame c.in-Frame.field-0 c.in-Frame.payload) p c.in-Frame.is (frame_read c.in-Frame.field-0 c.in-Frame.payload p (sym c.whole_area.ensures ∙ e));
 }

@@ -9,11 +9,11 @@ use Rattle.monitor.specs.Agrees.{Holds}
 use Rattle.monitor.proofs.Offered.{read_lawful, own_families, refused, accepted}
 use Rattle.monitor.proofs.monitor.Monitor.offer.Goals as goal
 
-pub returns-in-err-contents : goal.returns-in-err-contents
-returns-in-err-contents g c =
-    let x = c.in-err-contents.field-0.0 in
-    let read = sym c.read.ensures ∙ c.in-err-contents.was in
-    let p = err_from_is_err_and c.from-residual.result c.from-residual.ensures.1 in
+pub returns-in_err-contents : goal.returns-in_err-contents
+returns-in_err-contents g c =
+    let x = c.in_err-contents.field-0.0 in
+    let read = sym c.read.ensures ∙ c.in_err-contents.was in
+    let p = err_from_is_err_and c.from_residual.result c.from_residual.ensures.1 in
     rw (p.1, p.2) (record {
       refusal = sym (ap refusal_in read);
       unchanged = λ _ _. refl;
@@ -24,8 +24,8 @@ returns-in-err-contents g c =
 
 pub returns-in-Some : goal.returns-in-Some
 returns-in-Some g c =
-    let said = c.in-ok-contents.contents in
-    let read = sym c.read.ensures ∙ c.in-ok-contents.was in
+    let said = c.in_ok-contents.contents in
+    let read = sym c.read.ensures ∙ c.in_ok-contents.was in
     record {
       refusal = sym (ap refusal_in read);
       unchanged = λ x is. absurd (let z : ◌≡◌ {A = ℕ} 0 1 = cc in omega arith);
@@ -41,8 +41,8 @@ returns-in-Some g c =
 
 pub returns-in-default : goal.returns-in-default
 returns-in-default g c =
-    let said = c.in-ok-contents.contents in
-    let read = sym c.read.ensures ∙ c.in-ok-contents.was in
+    let said = c.in_ok-contents.contents in
+    let read = sym c.read.ensures ∙ c.in_ok-contents.was in
     record {
       refusal = sym (ap refusal_in read);
       unchanged = λ x is. absurd (let z : ◌≡◌ {A = ℕ} 0 1 = cc in omega arith);

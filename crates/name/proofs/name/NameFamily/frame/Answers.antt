@@ -9,12 +9,12 @@ frame-requires c =
     let s = c.args.self.now in
     let r = c.args.record.now in
     let q = c.args.sequence in
-    let ok = counted name_layout s r c.frame-count.result c.in-ok-count.count c.frame-count.ensures c.in-ok-count.was in
-    record { cuttable = cuttable name_layout s r sound q c.fields-of.result ok.0 (omega arith) c.fields-of.ensures; near = near name_layout s r sound q c.args.i ok.0 (omega arith) (omega (arith, ok.1)) }
+    let ok = counted name_layout s r c.frame_count.result c.in_ok-count.count c.frame_count.ensures c.in_ok-count.was in
+    record { cuttable = cuttable name_layout s r sound q c.fields_of.result ok.0 (omega arith) c.fields_of.ensures; near = near name_layout s r sound q c.args.i ok.0 (omega arith) (omega (arith, ok.1)) }
 
 pub returns : goal.returns
 returns c =
     let s = c.args.self.now in
     let r = c.args.record.now in
-    let ok = counted name_layout s r c.frame-count.result c.in-ok-count.count c.frame-count.ensures c.in-ok-count.was in
-    frame_due_lem name_layout s r c.args.sequence c.args.i c.frame.result c.fields-of.result ok.0 (omega arith) (omega (arith, ok.1)) c.fields-of.ensures c.frame.ensures
+    let ok = counted name_layout s r c.frame_count.result c.in_ok-count.count c.frame_count.ensures c.in_ok-count.was in
+    frame_due_lem name_layout s r c.args.sequence c.args.i c.frame.result c.fields_of.result ok.0 (omega arith) (omega (arith, ok.1)) c.fields_of.ensures c.frame.ensures
