@@ -1,5 +1,5 @@
 -- Hexadecimal digits, by the codes of their characters.
-use Rattle.std.specs.Prelude.{ℕ, ◌+◌, ◌-◌, ◌*◌, ◌%◌, Bool, cond, ◌&&◌, ◌||◌, Some, None, Option, ◌==◌, nat_le}
+use Rattle.std.specs.Prelude.{ℕ, ◌+◌, ◌-◌, ◌*◌, ◌%◌, cond, ◌&&◌, ◌||◌, Some, None, Option, ◌==◌, nat_le}
 use Rattle.hexadecimal.specs.declared.Reading.{Reading}
 use Rattle.hexadecimal.specs.declared.Reading.TheVariants.{Blank, UpperDigit, Byte, NoDigit}
 

@@ -1,5 +1,5 @@
 -- The coefficients of a PDU's polynomial.
-use Rattle.std.proofs.Common.{◌≡◌, ℕ, zero, suc, ◌+◌, ◌-◌, ◌*◌, ◌/◌, ◌%◌, ◌^◌, ◌<◌, ◌≤◌, true, false, cond, ltb, List, [], ◌∷◌, get_or, sym, refl, ap, ◌∙◌, ap₂, mod-lt, arith}
+use Rattle.std.proofs.Common.{◌≡◌, ℕ, zero, suc, ◌+◌, ◌-◌, ◌*◌, ◌/◌, ◌%◌, ◌^◌, ◌<◌, ltb, List, ◌∷◌, get_or, sym, refl, ap, ap₂, mod-lt, arith}
 use Rattle.std.proofs.lemmas.Bool.{lt-ltb, cond-true, cond_both}
 use Rattle.pdu.specs.Check.{bit_at, coefficient, down_from}
 use Rattle.pdu.specs.Division.{Coefficients, divided, lowered}

@@ -1,12 +1,12 @@
 -- A PDU from its fields, and the fields from a PDU.
-use Rattle.std.proofs.Common.{◌≡◌, ℕ, zero, suc, ◌+◌, ◌-◌, ◌*◌, ◌/◌, ◌%◌, ◌^◌, ◌<◌, ◌≤◌, Bool, true, false, cond, ◌&&◌, eqb, ltb, ◌⊎◌, List, [], ◌∷◌, get_or, Ok, Err, Result, sym, refl, ap, ◌∙◌, subst, ap₂, ⊎_elim, arith}
+use Rattle.std.proofs.Common.{◌≡◌, ℕ, zero, suc, ◌+◌, ◌-◌, ◌/◌, ◌%◌, ◌^◌, ◌<◌, ◌≤◌, true, false, cond, ◌&&◌, eqb, ltb, List, get_or, Ok, Err, Result, sym, refl, ap, ◌∙◌, ap₂, ⊎_elim, arith}
 use Rattle.std.proofs.lemmas.Bool.{lt-ltb, ltb-true, le-ltb, eq-eqb, eqb-true, cond-true, cond-false, cases_Bool, cases_lt, and_parts, and_from}
 use Rattle.pdu.specs.declared.refusal.Refusal.{Refusal}
 use Rattle.pdu.specs.declared.refusal.Refusal.TheVariants.{CheckDiffers, TypeNotZero, OutOfRange}
 use Rattle.pdu.specs.declared.pdu.Pdu.{Pdu}
 use Rattle.pdu.specs.declared.fields.Fields.{Fields}
 use Rattle.pdu.specs.Bytes.{TenBytes, number_of, bytes_of, bits}
-use Rattle.pdu.specs.Check.{bit_at, coefficient, coefficients, down_from, generator, check_of}
+use Rattle.pdu.specs.Check.{bit_at, coefficient, coefficients, generator, check_of}
 use Rattle.pdu.specs.Division.{remainder}
 use Rattle.pdu.specs.Fields.{flag, bit_of, fields_of, tested, parsed, fit, unchecked_number, checked, composed}
 use Rattle.pdu.proofs.Coefficients.{agree, binary, coefficient_is}

@@ -1,5 +1,5 @@
 -- The fields of a PDU: bit 0 is the type, bit 1 the extension, bits 2 to 5 the first message's number, bits 6 to 63 the message area, bit 64 reserved, bit 65 time locked, bits 66 and 67 a pair, bits 68 to 79 the check.
-use Rattle.std.specs.Prelude.{ℕ, ◌+◌, ◌*◌, ◌%◌, ◌^◌, Bool, cond, ◌&&◌, List, Ok, Err, Result, ◌==◌, nat_lt}
+use Rattle.std.specs.Prelude.{ℕ, ◌+◌, ◌*◌, ◌%◌, ◌^◌, Bool, cond, ◌&&◌, Ok, Err, Result, ◌==◌, nat_lt}
 use Rattle.pdu.specs.declared.refusal.Refusal.{Refusal}
 use Rattle.pdu.specs.declared.refusal.Refusal.TheVariants.{CheckDiffers, TypeNotZero, OutOfRange}
 use Rattle.pdu.specs.declared.pdu.Pdu.{Pdu}

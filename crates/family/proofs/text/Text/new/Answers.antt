@@ -1,4 +1,4 @@
-use Rattle.std.proofs.Common.{◌≡◌, leb, length, get_or, Ok, Err, sym, refl, ap, ◌∙◌, arith}
+use Rattle.std.proofs.Common.{leb, length, get_or, Ok, Err, sym, refl, ap, ◌∙◌, arith}
 use Rattle.std.proofs.lemmas.Bool.{cond-true, le-leb}
 use Rattle.pdu.specs.declared.refusal.Refusal.TheVariants.{TextLength}
 use Rattle.family.proofs.Fills.{filled_none, filled_more, filled_list}

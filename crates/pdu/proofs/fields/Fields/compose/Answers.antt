@@ -1,7 +1,7 @@
-use Rattle.std.proofs.Common.{◌≡◌, ◌+◌, true, Ok, sym, refl, ap, ◌∙◌}
+use Rattle.std.proofs.Common.{◌≡◌, ◌+◌, true, Ok, sym, ap, ◌∙◌}
 use Rattle.pdu.specs.Bytes.{bytes_of}
 use Rattle.pdu.specs.Check.{check_of}
-use Rattle.pdu.specs.Fields.{fit, composed, checked, unchecked_number}
+use Rattle.pdu.specs.Fields.{fit, checked, unchecked_number}
 use Rattle.pdu.proofs.Composed.{composed_right, parsed_again}
 use Rattle.pdu.proofs.fields.Fields.compose.Goals as goal
 

@@ -1,4 +1,4 @@
-use Rattle.std.proofs.Common.{◌≡◌, ℕ, suc, ◌+◌, ◌-◌, ◌*◌, ◌<◌, sym, refl, ap, ◌∙◌, subst, arith}
+use Rattle.std.proofs.Common.{◌≡◌, ◌+◌, ◌-◌, ◌*◌, sym, refl, ap, ◌∙◌, subst, arith}
 use Rattle.pdu.specs.Check.{coefficient, coefficients, generator, down_from, check_of}
 use Rattle.pdu.specs.Division.{divided, lowered, OnlyRemainder}
 use Rattle.pdu.proofs.Coefficients.{binary, next}

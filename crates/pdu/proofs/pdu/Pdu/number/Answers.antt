@@ -1,4 +1,4 @@
-use Rattle.std.proofs.Common.{arith, rules}
+use Rattle.std.proofs.Common.{rules}
 use Rattle.pdu.proofs.TenBytes.{each_small}
 use Rattle.pdu.proofs.pdu.Pdu.number.Goals as goal
 
