@@ -1,10 +1,10 @@
 -- Division of polynomials over two elements. A polynomial is a number whose binary digit k is the coefficient of X^k: the sum is bitXor, and times X is times 2. A list of coefficients has the highest power first.
 use Rattle.std.specs.Prelude.{◌≡◌, ℕ, ◌+◌, ◌*◌, ◌^◌, ◌<◌, cond, List, [], ◌∷◌, length, bit_xor, nat_lt}
-use Rattle.std.specs.List.{AllByRecursion as All}
+use Rattle.std.specs.List.{AllByRecursion}
 
 -- Each coefficient is 0 or 1.
 abbrev pub Coefficients : List ℕ → Type 0
-Coefficients cs = All (λ c. c < 2) cs
+Coefficients cs = AllByRecursion (λ c. c < 2) cs
 
 -- The polynomial p times X^(length cs), plus the polynomial with the coefficients cs.
 unfoldable pub followed_by : ℕ → List ℕ → ℕ

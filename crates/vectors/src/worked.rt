@@ -1,12 +1,12 @@
 // PDUs whose meaning is known from the format's own description.
 ghost use Rattle.std.specs.Prelude.{◌≡◌};
-ghost use Rattle.std.specs.List.{AllByRecursion as All};
+ghost use Rattle.std.specs.List.{AllByRecursion};
 ghost use Rattle.vectors.specs.Worked.{pdus, table, Right};
 
 // The PDUs of the table; each entry of the table is right by the definitions.
 pub fn worked_pdus() -> [[u8; 10]; 7]
     ensures bytes { result ≡ pdus }
-    ensures right { All Right table }
+    ensures right { AllByRecursion Right table }
 {
     table_is_right();
     [
@@ -22,5 +22,5 @@ pub fn worked_pdus() -> [[u8; 10]; 7]
 
 // Each entry of the table computes to what it says.
 fn table_is_right()
-    ensures { All Right table }
+    ensures { AllByRecursion Right table }
 {}
