@@ -19,9 +19,9 @@ returns-then-not-holds_all g c s h k =
     sym (ap (outcome m s) full)
 
 -- the frames that are joined are the full series
-full-joins : {S T : Type 0} (m : Meaning S T) (s f : S) (xs : List ℕ) (t : Table) (n : ℕ) (o : Option (RecordOf T)) → Slots m s xs t → Some n ≡ frames_told m s xs → n ≤ 64 →
+full_joins : {S T : Type 0} (m : Meaning S T) (s f : S) (xs : List ℕ) (t : Table) (n : ℕ) (o : Option (RecordOf T)) → Slots m s xs t → Some n ≡ frames_told m s xs → n ≤ 64 →
     ((k : ℕ) → k < n → get_or t.held k false ≡ true) → f ≡ s → o ≡ m.joined f (take (n - 0) t.frames) → joined_outcome o ≡ outcome m s (full_series m s xs)
-full-joins m s f xs t n o slots told few all is e =
+full_joins m s f xs t n o slots told few all is e =
     let z : n - 0 ≡ n = omega arith in
     let full : full_series m s xs ≡ Some (take n t.frames) = sym (ap (frames_up_to m s xs) told) ∙ below_held m s xs t slots n few all in
     ap joined_outcome (e ∙ ap (λ (i : ℕ). m.joined f (take i t.frames)) z ∙ ap (λ v. m.joined v (take n t.frames)) is) ∙ sym (ap (outcome m s) full)
@@ -31,5 +31,5 @@ returns g c s h k =
     let m = g.F.Family.meaning in
     let told = c.in-Some.ensures in
     c.at_full.ensures
-    ∙ full-joins m s c.args.self.now.family (series m s h) c.args.self.now.table c.in-Some.count (join_view c.join.result) k.slots_are (told.due s h k) (told.few _ refl)
+    ∙ full_joins m s c.args.self.now.family (series m s h) c.args.self.now.table c.in-Some.count (join_view c.join.result) k.slots_are (told.due s h k) (told.few _ refl)
     (c.holds_all.ensures.all c.if-not-holds_all.false) k.family_is c.join.ensures

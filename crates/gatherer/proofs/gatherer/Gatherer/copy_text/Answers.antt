@@ -5,10 +5,10 @@ use Rattle.gatherer.specs.Due.{copied_length, copied_to}
 use Rattle.gatherer.proofs.Promised.{text_shown}
 use Rattle.gatherer.proofs.gatherer.Gatherer.copy_text.Goals as goal
 
-pub returns-in-default : goal.returns-in-default
-returns-in-default g c s h k =
+pub returns-in_default : goal.returns-in_default
+returns-in_default g c s h k =
     let found = c.args.buffer.now in
-    text_shown g.F.Family.meaning g.met.F.Family.keeps s h None (ap join_view (sym c.in-default.is) ∙ k.shown_is) found (Err NothingThere) found refl refl
+    text_shown g.F.Family.meaning g.met.F.Family.keeps s h None (ap join_view (sym c.in_default.is) ∙ k.shown_is) found (Err NothingThere) found refl refl
 
 pub returns : goal.returns
 returns g c s h k =
