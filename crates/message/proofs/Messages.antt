@@ -1,5 +1,5 @@
 -- Any message, written and read.
-use Rattle.std.proofs.Common.{◌≡◌, ℕ, zero, suc, ◌^◌, ◌<◌, true, false, cond, ltb, Ok, Err, Result, sym, refl, ap, ◌∙◌, subst, ⊎_elim, arith}
+use Rattle.std.proofs.Common.{◌≡◌, ℕ, zero, suc, ◌^◌, ◌<◌, true, false, cond, ltb, Ok, Err, Result, sym, refl, ap, ◌∙◌, subst, ⊎_elim}
 use Rattle.std.proofs.lemmas.Bool.{lt-ltb, ltb-true, cond-true, cond-false, cases_Bool}
 use Rattle.pdu.specs.declared.refusal.Refusal.{Refusal}
 use Rattle.pdu.specs.declared.refusal.Refusal.TheVariants.{OutOfRange, ReservedMessage}
@@ -18,7 +18,7 @@ use Rattle.message.specs.Station.{station_of, station_in_range, station_packed, 
 use Rattle.message.specs.Location.{half_of, half_in_range, half_packed}
 use Rattle.message.specs.Service.{service_of}
 use Rattle.message.specs.Parameter.{parameter_of}
-use Rattle.message.specs.Message.{size_of, number_of, message_of, parsed, payload_of}
+use Rattle.message.specs.Message.{number_of, message_of, parsed, payload_of}
 use Rattle.message.proofs.Ranges.{refused, in_range_lem, range_parts, then_ok, then_parts}
 use Rattle.message.proofs.StationPacked.{station_again, station_packed_lem, short_name_again, short_name_packed_lem}
 use Rattle.message.proofs.LocationPacked.{half_again, half_packed_lem}

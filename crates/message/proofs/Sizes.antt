@@ -1,5 +1,5 @@
 -- The payload sizes.
-use Rattle.std.proofs.Common.{◌≡◌, ℕ, zero, suc, ◌*◌, ◌%◌, ◌^◌, ◌<◌, ◌≤◌, List, [], ◌∷◌, get_or, Some, None, Option, sym, refl, ap, ◌∙◌, subst, mod-eq_of_lt, one-mul, arith, lit≤}
+use Rattle.std.proofs.Common.{◌≡◌, ℕ, zero, suc, ◌*◌, ◌%◌, ◌^◌, ◌<◌, ◌≤◌, List, [], ◌∷◌, get_or, Some, None, Option, ap, ◌∙◌, subst, mod-eq_of_lt, one-mul, arith, lit≤}
 use lib.Pow.{pow-lt}
 use Rattle.std.specs.List.{AllByRecursion as All}
 use Rattle.message.specs.Message.{sizes, size_of}

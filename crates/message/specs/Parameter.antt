@@ -1,7 +1,6 @@
 -- Message 7, a parameter: index 6 bits, value 16. Index 0 is the pending and the current leap seconds, two signed bytes; index 3 is the local time: offset from UTC in minutes, signed, 11 bits, schedule 3, and two flags of daylight saving time. Other values are not read.
-use Rattle.std.specs.Prelude.{ℕ, ◌+◌, ◌*◌, ◌^◌, Bool, cond, not, ◌&&◌, ◌==◌, nat_lt}
+use Rattle.std.specs.Prelude.{ℕ, ◌+◌, ◌*◌, Bool, cond, not, ◌&&◌, ◌==◌, nat_lt}
 use Rattle.pdu.specs.Fields.{flag, bit_of}
-use Rattle.message.specs.declared.parameter.Minutes.{Minutes}
 use Rattle.message.specs.declared.parameter.LeapSeconds.{LeapSeconds}
 use Rattle.message.specs.declared.parameter.LocalTime.{LocalTime}
 use Rattle.message.specs.declared.parameter.Parameter.{Parameter}

@@ -2,9 +2,7 @@
 use Rattle.std.specs.Prelude.{ℕ, ◌+◌, ◌*◌, ◌/◌, ◌%◌, ◌^◌, Bool, cond, ◌&&◌, List, [], ◌∷◌, ◌++◌, map, Some, None, Ok, Err, codes, Option, Result, ◌==◌, nat_le, nat_lt, slice_index_or}
 use Rattle.pdu.specs.declared.refusal.Refusal.{Refusal}
 use Rattle.pdu.specs.declared.refusal.Refusal.TheVariants.{OutOfRange}
-use Rattle.message.specs.declared.station.CountryCode.{CountryCode}
 use Rattle.message.specs.declared.station.StationId.{StationId}
-use Rattle.message.specs.declared.station.Character.{Character}
 use Rattle.message.specs.declared.station.CallSignExtension.{CallSignExtension}
 use Rattle.message.specs.declared.station.CallSignExtension.TheVariants.{Nothing, DashFm}
 use Rattle.message.specs.declared.station.ShortName.{ShortName}

@@ -1,4 +1,4 @@
-use Rattle.std.proofs.Common.{◌≡◌, ℕ, ◌^◌, ◌<◌, ◌≤◌, cond, ltb, Some, None, Ok, Err, sym, ap, ◌∙◌, arith}
+use Rattle.std.proofs.Common.{◌≡◌, ℕ, ◌^◌, ◌<◌, ◌≤◌, cond, ltb, Some, None, Err, sym, ap, ◌∙◌, arith}
 use Rattle.std.proofs.lemmas.Bool.{lt-ltb, le-ltb, cond-true, cond-false}
 use Rattle.pdu.specs.declared.refusal.Refusal.TheVariants.{ReservedMessage, OutOfRange}
 use Rattle.message.specs.Message.{size_of, message_of, parsed}
@@ -10,8 +10,8 @@ use Rattle.message.proofs.message.Message.parse.Goals as goal
 with_size : (n p s : ℕ) → size_of n ≡ Some s → parsed n p ≡ cond (ltb p (2 ^ s)) (message_of n p) (Err OutOfRange)
 with_size n p s e = ap (λ o. elim o [ None ↦ Err ReservedMessage | Some size ↦ cond (ltb p (2 ^ size)) (message_of n p) (Err OutOfRange) ]) e
 
-pub returns-then-payload_size : goal.returns-then-payload_size
-returns-then-payload_size c =
+pub returns-then-payload-size : goal.returns-then-payload-size
+returns-then-payload-size c =
     let n = c.args.number in
     let p = c.args.payload in
     let s = c.in-Some.size in

@@ -2,8 +2,8 @@ use Rattle.std.proofs.Common.{◌≡◌, false, eqb, arith}
 use Rattle.std.proofs.lemmas.Bool.{ne_eqb}
 use Rattle.message.proofs.message.Message.parse_single.Goals as goal
 
-pub returns-in-default : goal.returns-in-default
-returns-in-default c =
+pub returns-in_default : goal.returns-in_default
+returns-in_default c =
     let n = c.args.number in
     let n0 : eqb n 0 ≡ false = ne_eqb n 0 (λ (e : n ≡ 0). omega arith) in
     let n1 : eqb n 1 ≡ false = ne_eqb n 1 (λ (e : n ≡ 1). omega arith) in

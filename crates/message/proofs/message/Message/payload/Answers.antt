@@ -1,6 +1,5 @@
-use Rattle.std.proofs.Common.{◌≡◌, sym, ap, ◌∙◌, rules}
+use Rattle.std.proofs.Common.{sym, ◌∙◌, rules}
 use Rattle.message.specs.declared.message.Message.TheVariants.{StationId, ShortName, Frame, Location, Service, Parameter, Universal}
-use Rattle.message.specs.Message.{payload_of}
 use Rattle.message.proofs.Messages.{via, station_read, short_name_read, frame_read, half_read, service_read, parameter_read, universal_read}
 use Rattle.message.proofs.message.Message.payload.Goals as goal
 
