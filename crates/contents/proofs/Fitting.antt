@@ -9,7 +9,6 @@ use Rattle.message.specs.declared.message.Message.{Message}
 use Rattle.message.specs.declared.message.Message.TheVariants.{StationId, ShortName, Frame, Location, Service, Parameter, Universal}
 use Rattle.message.specs.declared.place.Place.TheVariants.{Name, Message as PlaceMessage, Alert}
 use Rattle.message.specs.Message.{size_of, number_of, message_of, parsed}
-use Rattle.message.specs.Results.{and_then}
 use Rattle.message.proofs.Ranges.{refused, then_parts}
 use Rattle.contents.specs.Area.{size_due, first_size, second_size}
 

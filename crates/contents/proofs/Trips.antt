@@ -1,17 +1,17 @@
 -- Contents written and read, and read and written.
-use Rattle.std.proofs.Common.{◌≡◌, ℕ, ◌+◌, ◌-◌, ◌*◌, ◌/◌, ◌%◌, ◌^◌, ◌<◌, ◌≤◌, Bool, true, false, cond, eqb, ltb, Some, None, Ok, Err, Option, Result, sym, refl, ap, ◌∙◌, subst, ap₂, ⊎_elim, arith, pow_pos}
-use Rattle.std.proofs.lemmas.Bool.{eqb-true, ltb-false, cond-true, cond-false, cases_Bool}
+use Rattle.std.proofs.Common.{◌≡◌, ℕ, ◌+◌, ◌-◌, ◌^◌, ◌<◌, true, false, cond, eqb, Some, None, Ok, Err, Result, sym, ap, ◌∙◌, subst, ap₂, ⊎_elim, arith, pow_pos}
+use Rattle.std.proofs.lemmas.Bool.{eqb-true, cond-true, cond-false, cases_Bool}
 use Rattle.pdu.specs.declared.refusal.Refusal.{Refusal}
 use Rattle.pdu.specs.declared.refusal.Refusal.TheVariants.{LeftoverBitSet}
 use Rattle.pdu.specs.declared.fields.Fields.{Fields}
 use Rattle.message.specs.declared.message.Message.{Message}
-use Rattle.message.specs.Message.{size_of, number_of, parsed, payload_of}
+use Rattle.message.specs.Message.{number_of, parsed, payload_of}
 use Rattle.message.specs.Results.{and_then}
 use Rattle.message.proofs.Ranges.{refused, then_ok, then_parts}
 use Rattle.message.proofs.Messages.{written_again}
 use Rattle.contents.specs.declared.contents.Contents.{Contents}
 use Rattle.contents.specs.Area.{upper, lower, joined, first_size, second_size}
-use Rattle.contents.specs.Contents.{if_nothing_left, contents_with, one_message, second_message, two_messages, contents_of, fields_with, one_written, two_written, fields_of, with_second}
+use Rattle.contents.specs.Contents.{if_nothing_left, contents_with, one_message, second_message, two_messages, contents_of, fields_with, fields_of, with_second}
 use Rattle.contents.proofs.Areas.{joined_small, upper_joined, lower_joined, joined_again}
 use Rattle.contents.proofs.Fitting.{first_parts, second_parts, payload_small}
 

@@ -1,5 +1,5 @@
 -- What a PDU says: with extension 0 one message, with extension 1 a second number of four bits and its payload behind the first payload; the bits left over before the reserved bit are zero.
-use Rattle.std.specs.Prelude.{ℕ, ◌+◌, ◌-◌, Bool, true, false, cond, List, Some, None, Ok, Err, Option, Result, ◌==◌}
+use Rattle.std.specs.Prelude.{ℕ, ◌-◌, Bool, true, false, cond, List, Some, None, Ok, Err, Option, Result, ◌==◌}
 use Rattle.pdu.specs.declared.refusal.Refusal.{Refusal}
 use Rattle.pdu.specs.declared.refusal.Refusal.TheVariants.{LeftoverBitSet}
 use Rattle.pdu.specs.declared.pdu.Pdu.{Pdu}

@@ -29,7 +29,7 @@ impl Contents {
     // What a slice of bytes says; ten are read.
     pub fn read(bytes: &[u8]) -> Result<Contents, Refusal>
         ensures value { result ≡ read_from bytes.now }
-        ensures written_again { (c : Contents) → result ≡ Ok c → encoded c ≡ Ok (record { bytes = bytes.entry.now }) }
+        ensures written_again { (c : Contents) → result ≡ Ok c → encoded c ≡ Ok (record { bytes = bytes.now }) }
     {
         let pdu = Pdu::from_slice(bytes)?;
         Contents::decode(pdu)

@@ -33,7 +33,7 @@ impl Contents {
         }
     }
 
-    fn one_written_lem(self) -> Result<Fields, Refusal>
+    fn one_written(self) -> Result<Fields, Refusal>
         ensures value { result ≡ one_written self }
         ensures read_again { (f : Fields) → result ≡ Ok f → contents_of f ≡ Ok (with_second self None) }
     {

@@ -1,6 +1,5 @@
-use Rattle.std.proofs.Common.{◌≡◌, ℕ, ◌-◌, ◌*◌, ◌%◌, ◌^◌, ◌<◌, sym, refl, ap, subst, mod-lt, arith, pow_pos}
+use Rattle.std.proofs.Common.{ℕ, ◌-◌, ◌%◌, ◌^◌, ◌<◌, sym, refl, ap, subst, mod-lt, arith, pow_pos}
 use Rattle.message.proofs.Sizes.{shifted}
-use Rattle.contents.specs.Area.{lower}
 use Rattle.contents.proofs.Areas.{upper_small}
 use Rattle.contents.proofs.area.split.Goals as goal
 

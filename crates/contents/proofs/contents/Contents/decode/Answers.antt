@@ -1,4 +1,4 @@
-use Rattle.std.proofs.Common.{◌≡◌, sym, ◌∙◌, rules}
+use Rattle.std.proofs.Common.{sym, ◌∙◌, rules}
 use Rattle.pdu.specs.Fields.{composed}
 use Rattle.message.proofs.Ranges.{then_ok}
 use Rattle.contents.specs.Contents.{fields_of}

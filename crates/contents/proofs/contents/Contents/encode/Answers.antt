@@ -1,4 +1,4 @@
-use Rattle.std.proofs.Common.{◌≡◌, Ok, sym, ◌∙◌, rules}
+use Rattle.std.proofs.Common.{◌∙◌, rules}
 use Rattle.pdu.specs.Fields.{parsed as fields_in}
 use Rattle.message.proofs.Ranges.{then_ok}
 use Rattle.contents.specs.Contents.{contents_of}

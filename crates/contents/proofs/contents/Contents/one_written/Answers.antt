@@ -1,8 +1,7 @@
-use Rattle.std.proofs.Common.{◌≡◌, ◌-◌, false, None, Ok, sym, ap, ◌∙◌, subst, rules}
-use Rattle.pdu.specs.declared.fields.Fields.{Fields}
-use Rattle.message.specs.Message.{number_of, parsed}
+use Rattle.std.proofs.Common.{◌≡◌, ◌-◌, false, Ok, sym, ap, ◌∙◌, rules}
+use Rattle.message.specs.Message.{number_of}
 use Rattle.contents.specs.Area.{first_size, joined}
-use Rattle.contents.specs.Contents.{contents_of, fields_with, with_second}
+use Rattle.contents.specs.Contents.{contents_of, fields_with}
 use Rattle.contents.proofs.Trips.{one_read}
 use Rattle.contents.proofs.contents.Contents.one_written.Goals as goal
 

@@ -1,4 +1,4 @@
-use Rattle.std.proofs.Common.{◌≡◌, Ok, sym, ap, ◌∙◌, rules}
+use Rattle.std.proofs.Common.{Ok, ap, ◌∙◌, rules}
 use Rattle.contents.proofs.Fitting.{taken_is}
 use Rattle.contents.proofs.contents.Contents.read.Goals as goal
 

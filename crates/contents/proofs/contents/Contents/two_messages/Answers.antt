@@ -1,4 +1,4 @@
-use Rattle.std.proofs.Common.{◌≡◌, ◌-◌, ap, ◌∙◌, ap₂, arith}
+use Rattle.std.proofs.Common.{◌≡◌, ◌-◌, ◌∙◌, ap₂, arith}
 use Rattle.contents.specs.Area.{upper, lower}
 use Rattle.contents.specs.Contents.{second_message}
 use Rattle.contents.proofs.contents.Contents.two_messages.Goals as goal

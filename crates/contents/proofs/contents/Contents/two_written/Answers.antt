@@ -1,6 +1,6 @@
-use Rattle.std.proofs.Common.{◌≡◌, ℕ, ◌+◌, ◌-◌, ◌^◌, ◌<◌, ◌≤◌, true, Some, Ok, sym, ap, ◌∙◌, subst, ap₂, arith, pow_pos, rules}
+use Rattle.std.proofs.Common.{◌≡◌, ℕ, ◌+◌, ◌-◌, ◌^◌, ◌<◌, true, Ok, sym, ap, ◌∙◌, subst, ap₂, arith, pow_pos, rules}
 use Rattle.std.proofs.lemmas.Bool.{ltb-false}
-use Rattle.message.specs.Message.{size_of, number_of}
+use Rattle.message.specs.Message.{number_of}
 use Rattle.contents.specs.Area.{first_size, second_size, joined}
 use Rattle.contents.specs.Contents.{contents_of, fields_with}
 use Rattle.contents.proofs.Trips.{two_read}
