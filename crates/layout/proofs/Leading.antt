@@ -1,5 +1,5 @@
 -- The leading fields of frame 0 and of a later frame, and their room.
-use Rattle.std.proofs.Common.{◌≡◌, ℕ, ◌+◌, ◌-◌, ◌*◌, ◌^◌, ◌<◌, ◌≤◌, eqb, ap, ◌∙◌, ⊎_elim, mul-le-mul_right, add-mul, one-mul, arith}
+use Rattle.std.proofs.Common.{◌≡◌, ℕ, ◌+◌, ◌*◌, ◌^◌, ◌<◌, ◌≤◌, eqb, ap, ◌∙◌, ⊎_elim, mul-le-mul_right, add-mul, one-mul, arith}
 use Rattle.std.proofs.lemmas.Bool.{cases_eq, eq-eqb, ne_eqb, cond-true, cond-false}
 use Rattle.layout.specs.declared.layout.FrameLayout.{FrameLayout}
 use Rattle.layout.specs.declared.layout.FrameFields.{FrameFields}

@@ -1,5 +1,5 @@
 -- Bytes packed behind a number, and read again.
-use Rattle.std.proofs.Common.{◌≡◌, ℕ, zero, suc, ◌+◌, ◌-◌, ◌*◌, ◌/◌, ◌%◌, ◌^◌, ◌<◌, ◌≤◌, ◌⊎◌, List, get_or, sym, ap, ◌∙◌, subst, ap₂, ⊎_elim, mod-eq_of_lt, mul_assoc, mul-le-mul_left, one-mul, mul-zero, mul-suc, div-one, arith, pow_mono, pow-add}
+use Rattle.std.proofs.Common.{◌≡◌, ℕ, zero, suc, ◌+◌, ◌-◌, ◌*◌, ◌/◌, ◌%◌, ◌^◌, ◌<◌, ◌≤◌, List, get_or, sym, ap, ◌∙◌, subst, ap₂, ⊎_elim, mod-eq_of_lt, mul_assoc, mul-le-mul_left, one-mul, mul-zero, mul-suc, div-one, arith, pow_mono, pow-add}
 use native.Mathlib.Nat.{div-div-eq-div-mul}
 use lib.Arith.{digits_div, digits_mod, digits_lt}
 use Rattle.std.proofs.lemmas.Bool.{cases_lt}

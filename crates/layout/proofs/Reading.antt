@@ -1,5 +1,5 @@
 -- What is read from frames: the bytes of the text, and the fields around them.
-use Rattle.std.proofs.Common.{◌≡◌, ℕ, ◌+◌, ◌-◌, ◌*◌, ◌/◌, ◌%◌, ◌^◌, ◌<◌, ◌≤◌, eqb, ltb, ◌⊎◌, List, length, get_or, sym, ap, ◌∙◌, subst, ap₂, ⊎_elim, mod-lt, add-mul, one-mul, div-add-mod', le-div_iff_mul-le, zero-add, div-mul-le_self, arith, pow_pos, pow_mono}
+use Rattle.std.proofs.Common.{◌≡◌, ℕ, ◌+◌, ◌-◌, ◌*◌, ◌/◌, ◌%◌, ◌^◌, ◌<◌, ◌≤◌, eqb, ltb, List, length, get_or, sym, ap, ◌∙◌, subst, ap₂, ⊎_elim, mod-lt, add-mul, one-mul, div-add-mod', le-div_iff_mul-le, zero-add, div-mul-le_self, arith, pow_pos, pow_mono}
 use native.Mathlib.Nat.{zero-div, zero-mod}
 use lib.Arith.{digits_div, digits_mod}
 use Rattle.std.proofs.lemmas.Bool.{cases_lt, lt-ltb, le-ltb, ne_eqb, cond-true, cond-false, cond_both}

@@ -4,13 +4,13 @@ use Rattle.layout.specs.Frames.{with_bytes}
 use Rattle.layout.proofs.Packing.{shifted, packed_below}
 use Rattle.layout.proofs.frames.with_bytes.Goals as goal
 
-pub overflow-mul-packed : goal.overflow-mul-packed
-overflow-mul-packed c =
+pub overflow_mul-packed : goal.overflow_mul-packed
+overflow_mul-packed c =
     let b = packed_below c.args.leading c.args.byte_bits (bytes_of c.args.text.now) c.args.place c.args.count c.loop-i.i c.loop-i.packed c.requires.narrow c.requires.small c.loop-i-test.true c.requires.room c.loop-i.invariant in
     record { fits = omega (arith, b) }
 
-pub overflow-add-packed : goal.overflow-add-packed
-overflow-add-packed c =
+pub overflow_add-packed : goal.overflow_add-packed
+overflow_add-packed c =
     let b = packed_below c.args.leading c.args.byte_bits (bytes_of c.args.text.now) c.args.place c.args.count c.loop-i.i c.loop-i.packed c.requires.narrow c.requires.small c.loop-i-test.true c.requires.room c.loop-i.invariant in
     let e = c.from.ensures ∙ c.byte_or_zero.ensures in
     record { fits = omega (arith, b, e) }

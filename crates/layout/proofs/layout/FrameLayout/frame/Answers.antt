@@ -19,13 +19,13 @@ below s f t i y ok h e =
     let z = trailing_below y s.trailing_bits f.trailing b few ok.fields_fit.trailing_fits in
     omega (arith, v, z)
 
-pub overflow-mul-result : goal.overflow-mul-result
-overflow-mul-result c =
+pub overflow_mul-result : goal.overflow_mul-result
+overflow_mul-result c =
     let b = below c.args.self c.args.fields c.args.text.now c.args.i c.before_trailing.result c.requires.cuttable c.requires.near c.before_trailing.ensures in
     record { fits = omega (arith, b) }
 
-pub overflow-add-result : goal.overflow-add-result
-overflow-add-result c =
+pub overflow_add-result : goal.overflow_add-result
+overflow_add-result c =
     let b = below c.args.self c.args.fields c.args.text.now c.args.i c.before_trailing.result c.requires.cuttable c.requires.near c.before_trailing.ensures in
     record { fits = omega (arith, b) }
 
