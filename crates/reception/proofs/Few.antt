@@ -1,6 +1,6 @@
 -- A place with no more than three changes: at most two lie between any two frames.
-use Rattle.std.proofs.Common.{◌≡◌, ℕ, ◌≤◌, Bool, true, false, cond, List, [], ◌∷◌, length, arith}
-use Rattle.family.specs.Meaning.{Meaning, RecordOf, Laws}
+use Rattle.std.proofs.Common.{ℕ, ◌≤◌, Bool, true, false, cond, List, [], ◌∷◌, length, arith}
+use Rattle.family.specs.Meaning.{Meaning, Laws}
 use Rattle.gatherer.specs.Series.{accepted, forgotten}
 use Rattle.airing.specs.Calls.{Call, stored, withdrawn, drawn, is_change, changes}
 use Rattle.airing.specs.Agrees.{LawfulRecords}
