@@ -1,6 +1,5 @@
 -- What was heard in range.
 use Rattle.std.specs.Prelude.{◌≡◌, Bool, true, List, [], ◌∷◌, Some, None, Option}
-use Rattle.message.specs.declared.message.Message.{Message}
 use Rattle.message.specs.declared.location.LocationHalf.{LocationHalf}
 use Rattle.message.specs.Location.{half_in_range}
 use Rattle.station_information.specs.Hearings.{Hearing, heard, forgot}
