@@ -52,7 +52,7 @@ pub fn read<N: Family, M: Family, A: Family>(
     bytes: &[u8],
 ) -> Result<Contents, Refusal>
     ensures value { result ≡ read_with (lawful_at (N.Family.meaning.lawful name.now) (M.Family.meaning.lawful message.now) (A.Family.meaning.lawful alert.now)) bytes.now }
-    ensures written_again { (c : Contents) → result ≡ Ok c → encoded_with (lawful_at (N.Family.meaning.lawful name.now) (M.Family.meaning.lawful message.now) (A.Family.meaning.lawful alert.now)) c ≡ Ok (record { bytes = bytes.entry.now }) }
+    ensures written_again { (c : Contents) → result ≡ Ok c → encoded_with (lawful_at (N.Family.meaning.lawful name.now) (M.Family.meaning.lawful message.now) (A.Family.meaning.lawful alert.now)) c ≡ Ok (record { bytes = bytes.now }) }
 {
     let contents = Contents::read(bytes)?;
     if is_lawful(name, message, alert, contents) {
