@@ -1,5 +1,5 @@
 -- What a draw comes to, accepted or refused.
-use Rattle.std.proofs.Common.{◌≡◌, ℕ, ◌+◌, ◌%◌, Bool, true, false, cond, eqb, List, [], ◌∷◌, length, Ok, Err, Result, sym, refl, ap, ◌∙◌, subst, add-zero}
+use Rattle.std.proofs.Common.{◌≡◌, ℕ, true, false, cond, eqb, List, ◌∷◌, length, Ok, Err, Result, sym, refl, ap, ◌∙◌, subst, add-zero}
 use Rattle.std.proofs.lemmas.Bool.{eq-eqb, ne_eqb}
 use Rattle.pdu.specs.declared.refusal.Refusal.{Refusal}
 use Rattle.pdu.specs.declared.refusal.Refusal.TheVariants.{NotTenBytes}
@@ -11,9 +11,9 @@ use Rattle.message.proofs.Ranges.{then_ok}
 use Rattle.family.specs.Meaning.{Laws}
 use Rattle.transport.specs.declared.head.Head.{Head}
 use Rattle.transport.specs.Transport.{if_lawful, read_with}
-use Rattle.transport.specs.Families.{Families, PlaceOf, lawful_in}
+use Rattle.transport.specs.Families.{Families, lawful_in}
 use Rattle.card.specs.declared.card.Card.{Card}
-use Rattle.card.specs.Calls.{Call, draw, accepted_draws, calls_at}
+use Rattle.card.specs.Calls.{Call, draw, accepted_draws}
 use Rattle.card.specs.Due.{StationOf, contents_due}
 use Rattle.card.specs.Agrees.{Agrees, DrawnSo}
 use Rattle.card.proofs.Rounding.{name_once, message_once, alert_once}

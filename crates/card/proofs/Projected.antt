@@ -3,7 +3,7 @@ use Rattle.std.proofs.Common.{◌≡◌, ℕ, ◌+◌, Bool, true, false, cond, 
 use Rattle.pdu.specs.declared.refusal.Refusal.{Refusal}
 use Rattle.family.specs.Meaning.{RecordOf}
 use Rattle.transport.specs.Families.{FamilyOf, PlaceOf}
-use Rattle.airing.specs.Calls.{Call as PlaceCall, stored, withdrawn, drawn}
+use Rattle.airing.specs.Calls.{Call as PlaceCall, stored}
 use Rattle.card.specs.Calls.{Call, store, withdraw, draw, accepted_draws, store_unless, store_of, call_at, with_call, calls_at}
 use Rattle.card.specs.Rounds.{calls_since}
 

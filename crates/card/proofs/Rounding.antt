@@ -5,16 +5,16 @@ use Rattle.std.proofs.lemmas.Bool.{cases_eq, ne_eqb}
 use Rattle.message.specs.declared.place.Place.{Place}
 use Rattle.message.specs.declared.place.Place.TheVariants.{Name, Message, Alert}
 use Rattle.message.specs.Place.{place_number}
-use Rattle.family.specs.Meaning.{Meaning, Laws}
+use Rattle.family.specs.Meaning.{Laws}
 use Rattle.transport.specs.declared.head.Head.{Head}
 use Rattle.transport.specs.Transport.{frame_in}
 use Rattle.transport.specs.Families.{Families, PlaceOf, name_place, message_place, alert_place}
-use Rattle.airing.specs.Calls.{Call as PlaceCall, stored, withdrawn, drawn}
+use Rattle.airing.specs.Calls.{withdrawn, drawn}
 use Rattle.airing.specs.Due.{frame_drawn}
 use Rattle.airing.specs.Rounds.{draws, with_frame, frames_since, occurrences}
 use Rattle.airing.specs.Agrees.{LawfulRecords}
 use Rattle.airing.proofs.Rounding.{round}
-use Rattle.card.specs.Calls.{Call, store, withdraw, draw, accepted_draws, turn_after, turn_of, own_record, call_at, with_call, calls_at}
+use Rattle.card.specs.Calls.{Call, store, withdraw, draw, accepted_draws, turn_after, turn_of, own_record, with_call, calls_at}
 use Rattle.card.specs.Due.{StationOf, frame_message, frame_at_turn, frame_or_station, contents_due}
 use Rattle.card.specs.Rounds.{frames_drawn, calls_since, cut_at, Round, EachFrameOnce}
 use Rattle.card.proofs.Projected.{store_skipped, calls_split, draws_split}

@@ -1,19 +1,18 @@
 -- A store, at its place and at the others.
-use Rattle.std.proofs.Common.{◌≡◌, ℕ, Bool, true, false, cond, eqb, List, [], ◌∷◌, Some, None, Ok, Err, Option, Result, sym, refl, ap, ◌∙◌, subst, arith}
+use Rattle.std.proofs.Common.{◌≡◌, ℕ, Bool, true, false, List, ◌∷◌, Some, None, Err, Option, Result, refl, ap, ◌∙◌, arith}
 use Rattle.std.proofs.lemmas.Bool.{eq-eqb}
 use Rattle.pdu.specs.declared.refusal.Refusal.{Refusal}
 use Rattle.pdu.specs.declared.refusal.Refusal.TheVariants.{OutOfRange}
 use Rattle.message.specs.Place.{place_number}
 use Rattle.message.specs.Results.{in_range}
-use Rattle.family.specs.Meaning.{Meaning, RecordOf, unless}
+use Rattle.family.specs.Meaning.{RecordOf}
 use Rattle.transport.specs.Families.{PlaceOf}
 use Rattle.airing.specs.declared.place.Place.{Place as AiredPlace}
 use Rattle.airing.specs.declared.stored.Stored.{Stored}
 use Rattle.airing.specs.Calls.{Call as PlaceCall}
-use Rattle.airing.specs.Due.{answer_due}
 use Rattle.airing.specs.Agrees.{Agrees as AgreesAt, Accepted}
-use Rattle.card.specs.Calls.{Call, store, own_record, store_of, with_call, calls_at}
-use Rattle.card.specs.Due.{StationOf, own_store_due, store_due_at}
+use Rattle.card.specs.Calls.{Call, store, own_record, calls_at}
+use Rattle.card.specs.Due.{store_due_at}
 use Rattle.card.specs.Agrees.{PlaceAgrees}
 
 -- What a store comes to at its place: the answer due, and the place as it agrees with the longer list.

@@ -1,13 +1,12 @@
 -- A draw, from what its parts did.
-use Rattle.std.proofs.Common.{◌≡◌, ℕ, ◌+◌, ◌%◌, Bool, true, false, cond, List, [], ◌∷◌, Some, None, Option, sym, refl, ap, ◌∙◌, subst, arith}
+use Rattle.std.proofs.Common.{◌≡◌, ℕ, ◌+◌, ◌%◌, List, ◌∷◌, Option, ap, ◌∙◌}
 use native.Mathlib.Nat.{mod-add-mod}
 use Rattle.message.specs.declared.message.Message.{Message as MessageType}
-use Rattle.contents.specs.declared.contents.Contents.{Contents}
 use Rattle.transport.specs.declared.head.Head.{Head}
 use Rattle.transport.specs.Families.{Families}
 use Rattle.card.specs.declared.card.Card.{Card}
-use Rattle.card.specs.Calls.{Call, draw, accepted_draws, turn_after}
-use Rattle.card.specs.Due.{StationOf, frame_at_turn, frame_or_station, contents_due}
+use Rattle.card.specs.Calls.{Call, draw, accepted_draws}
+use Rattle.card.specs.Due.{StationOf, frame_or_station, contents_due}
 use Rattle.card.specs.Agrees.{Agrees, FrameTaken, turn_number}
 
 -- c is the card as found, d with the frame drawn, and k with the turn passed

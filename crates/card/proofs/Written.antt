@@ -1,5 +1,5 @@
 -- Every PDU that is due can be written, and is read as it was written.
-use Rattle.std.proofs.Common.{◌≡◌, ℕ, ◌+◌, ◌%◌, ◌^◌, ◌<◌, Bool, true, false, cond, ◌&&◌, eqb, ltb, List, [], ◌∷◌, Some, None, Ok, Err, Option, Result, sym, refl, ap, ◌∙◌, subst, arith}
+use Rattle.std.proofs.Common.{◌≡◌, ℕ, ◌^◌, ◌<◌, Bool, true, false, cond, eqb, ltb, List, Some, None, Ok, Option, refl, ◌∙◌, arith}
 use Rattle.std.proofs.lemmas.Bool.{lt-ltb, and_parts}
 use Rattle.pdu.specs.declared.pdu.Pdu.{Pdu}
 use Rattle.pdu.specs.declared.fields.Fields.{Fields}
@@ -8,7 +8,7 @@ use Rattle.pdu.proofs.Composed.{fits, composed_right}
 use Rattle.message.specs.declared.place.Place.{Place}
 use Rattle.message.specs.declared.place.Place.TheVariants.{Name, Message, Alert}
 use Rattle.message.specs.declared.message.Message.{Message as MessageType}
-use Rattle.message.specs.declared.message.Message.TheVariants.{StationId, ShortName, Frame}
+use Rattle.message.specs.declared.message.Message.TheVariants.{Frame}
 use Rattle.message.specs.Results.{in_range, and_then}
 use Rattle.message.specs.Station.{station_in_range, station_packed, short_name_in_range, short_name_packed}
 use Rattle.message.proofs.Ranges.{in_range_lem, then_ok}
@@ -20,12 +20,12 @@ use Rattle.contents.proofs.Areas.{joined_small}
 use Rattle.family.specs.Meaning.{Laws}
 use Rattle.transport.specs.declared.head.Head.{Head}
 use Rattle.transport.specs.Transport.{contents_lawful}
-use Rattle.transport.specs.Families.{Families, PlaceOf, lawful_in, name_place, message_place, alert_place}
+use Rattle.transport.specs.Families.{Families, lawful_in, name_place, message_place, alert_place}
 use Rattle.airing.specs.Due.{frame_drawn}
 use Rattle.airing.specs.Agrees.{LawfulRecords}
 use Rattle.airing.proofs.Changes.{drawn_lawful}
 use Rattle.card.specs.Calls.{Call, turn_after, calls_at}
-use Rattle.card.specs.Due.{StationOf, station_fits, contents_of, station_contents, frame_message, frame_at_turn, frame_or_station, contents_due}
+use Rattle.card.specs.Due.{StationOf, station_fits, contents_of, station_contents, frame_message, frame_or_station, contents_due}
 
 -- The contents can be written, and their frames are lawful.
 pub record Writable (lawful : Place → ℕ → Bool) (c : Contents) : Type 0 where

@@ -2,9 +2,7 @@
 use Rattle.std.specs.Prelude.{◌≡◌, ℕ, true, false, List, [], ◌∷◌, length, Ok, Err, Option, Result}
 use Rattle.pdu.specs.declared.refusal.Refusal.{Refusal}
 use Rattle.pdu.specs.declared.refusal.Refusal.TheVariants.{OutOfRange}
-use Rattle.pdu.specs.declared.pdu.Pdu.{Pdu}
 use Rattle.message.specs.declared.message.Message.{Message as MessageType}
-use Rattle.contents.specs.declared.contents.Contents.{Contents}
 use Rattle.contents.specs.Contents.{encoded, buffer_after}
 use Rattle.family.specs.Meaning.{RecordOf}
 use Rattle.transport.specs.declared.head.Head.{Head}
@@ -16,8 +14,8 @@ use Rattle.airing.specs.Agrees.{Agrees as AgreesAt}
 use Rattle.card.specs.declared.card.Card.{Card}
 use Rattle.card.specs.declared.card.Turn.{Turn}
 use Rattle.card.specs.declared.card.Turn.TheVariants.{Station, Name, Message, Alert}
-use Rattle.card.specs.Calls.{Call, store, withdraw, draw, turn_after, calls_at}
-use Rattle.card.specs.Due.{StationOf, station_fits, frame_at_turn, contents_due, draw_answer, store_due, withdraw_answer}
+use Rattle.card.specs.Calls.{Call, store, draw, turn_after, calls_at}
+use Rattle.card.specs.Due.{StationOf, station_fits, frame_at_turn, contents_due, draw_answer, store_due}
 use Rattle.card.specs.Rounds.{Round, EachFrameOnce}
 
 -- The number of a turn.

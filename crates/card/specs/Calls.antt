@@ -1,5 +1,5 @@
 -- The calls of a card, and what each place reads off them. The latest call comes first; refused calls are among them.
-use Rattle.std.specs.Prelude.{ℕ, ◌+◌, ◌%◌, Bool, cond, ◌&&◌, List, [], ◌∷◌, Some, None, Option, ◌==◌}
+use Rattle.std.specs.Prelude.{ℕ, ◌+◌, ◌%◌, cond, ◌&&◌, List, [], ◌∷◌, Some, None, Option, ◌==◌}
 use Rattle.pdu.specs.declared.refusal.Refusal.{Refusal}
 use Rattle.message.specs.declared.place.Place.{Place}
 use Rattle.message.specs.declared.place.Place.TheVariants.{Name, Message, Alert}

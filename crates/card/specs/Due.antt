@@ -1,5 +1,5 @@
 -- What is due of a card after its calls.
-use Rattle.std.specs.Prelude.{ℕ, Bool, false, cond, ◌&&◌, List, [], ◌∷◌, Some, None, Ok, Err, Option, Result, ◌==◌}
+use Rattle.std.specs.Prelude.{ℕ, Bool, false, cond, ◌&&◌, List, Some, None, Ok, Err, Option, Result, ◌==◌}
 use Rattle.pdu.specs.declared.refusal.Refusal.{Refusal}
 use Rattle.pdu.specs.declared.refusal.Refusal.TheVariants.{NotTenBytes, HeadSettingOrPlace}
 use Rattle.message.specs.declared.place.Place.{Place}

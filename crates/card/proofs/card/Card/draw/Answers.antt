@@ -1,4 +1,4 @@
-use Rattle.std.proofs.Common.{◌≡◌, refl, arith}
+use Rattle.std.proofs.Common.{refl, arith}
 use Rattle.transport.specs.Families.{families}
 use Rattle.card.proofs.Drawing.{refused, drew}
 use Rattle.card.proofs.card.Card.draw.Goals as goal

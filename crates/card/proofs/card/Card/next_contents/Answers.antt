@@ -1,6 +1,6 @@
-use Rattle.std.proofs.Common.{◌≡◌, Some, None, sym, refl, ap, ◌∙◌}
+use Rattle.std.proofs.Common.{◌≡◌, sym, ap, ◌∙◌}
 use Rattle.transport.specs.Families.{families}
-use Rattle.card.specs.Due.{StationOf, station_contents, frame_or_station}
+use Rattle.card.specs.Due.{station_contents, frame_or_station}
 use Rattle.card.proofs.Turning.{turned, due}
 use Rattle.card.proofs.card.Card.next_contents.Goals as goal
 

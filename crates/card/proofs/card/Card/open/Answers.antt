@@ -1,4 +1,4 @@
-use Rattle.std.proofs.Common.{◌≡◌, sym}
+use Rattle.std.proofs.Common.{sym}
 use Rattle.std.proofs.lemmas.Result.{err_from_is_err_and}
 use Rattle.message.specs.Station.{station_in_range, short_name_in_range, short_name_packed}
 use Rattle.std.proofs.lemmas.Bool.{and_right}

@@ -1,4 +1,4 @@
-use Rattle.std.proofs.Common.{◌≡◌, ℕ, false, eqb, Some, None, sym, refl, ap, ◌∙◌, rules}
+use Rattle.std.proofs.Common.{◌≡◌, ℕ, false, eqb, Some, ap, rules}
 use Rattle.message.specs.Place.{place_with}
 use Rattle.message.specs.declared.place.Place.TheVariants.{Name, Message, Alert}
 use Rattle.family.specs.Texts.{bytes_of, record_view}
