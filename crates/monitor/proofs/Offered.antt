@@ -1,21 +1,20 @@
 -- An offer, from what was read and heard of it.
-use Rattle.std.proofs.Common.{◌≡◌, ℕ, Bool, true, false, cond, ◌&&◌, List, [], ◌∷◌, Some, None, Ok, Err, Option, Result, sym, refl, ap, ◌∙◌, subst, inl, inr, arith}
+use Rattle.std.proofs.Common.{◌≡◌, ℕ, Bool, true, cond, List, Ok, Err, Result, sym, refl, ap, ◌∙◌, subst, inl, inr, arith}
 use Rattle.std.proofs.lemmas.Bool.{and_parts, cases_Bool}
 use Rattle.pdu.specs.declared.refusal.Refusal.{Refusal}
 use Rattle.pdu.specs.declared.refusal.Refusal.TheVariants.{UnlawfulFrame}
 use Rattle.message.specs.declared.place.Place.{Place}
-use Rattle.message.specs.declared.message.Message.{Message as MessageType}
 use Rattle.message.proofs.Ranges.{then_parts}
 use Rattle.contents.specs.declared.contents.Contents.{Contents}
 use Rattle.contents.specs.Contents.{read_from}
-use Rattle.transport.specs.Transport.{message_lawful, second_lawful, contents_lawful, if_lawful, read_with, lawful_at}
+use Rattle.transport.specs.Transport.{message_lawful, second_lawful, contents_lawful, if_lawful, read_with}
 use Rattle.transport.specs.Families.{Families, families, lawful_in}
-use Rattle.station_information.specs.Hearings.{Hearing, heard}
+use Rattle.station_information.specs.Hearings.{Hearing}
 use Rattle.monitor.specs.declared.monitor.Monitor.{Monitor}
 use Rattle.monitor.specs.declared.answer.OfferAnswer.{OfferAnswer}
-use Rattle.monitor.specs.Calls.{Call, offer, hearings, offer_heard, contents_heard, then_heard}
+use Rattle.monitor.specs.Calls.{Call, hearings, contents_heard}
 use Rattle.monitor.specs.Due.{message_answer}
-use Rattle.monitor.specs.Agrees.{Holds, Agrees, HeardSo, OfferedSo}
+use Rattle.monitor.specs.Agrees.{Holds, Agrees, OfferedSo}
 
 if_lawful_lem : (lawful : Place → ℕ → Bool) (d c : Contents) → if_lawful lawful d d ≡ Ok c → contents_lawful lawful c ≡ true
 if_lawful_lem lawful d c e =

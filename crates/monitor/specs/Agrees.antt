@@ -1,5 +1,5 @@
 -- When a monitor agrees with its calls: its state is what they lead to.
-use Rattle.std.specs.Prelude.{◌≡◌, ℕ, List, [], ◌∷◌, Result}
+use Rattle.std.specs.Prelude.{◌≡◌, ℕ, List, ◌∷◌, Result}
 use Rattle.pdu.specs.declared.refusal.Refusal.{Refusal}
 use Rattle.message.specs.declared.place.Place.TheVariants.{Name, Message, Alert}
 use Rattle.message.specs.declared.message.Message.{Message as MessageType}

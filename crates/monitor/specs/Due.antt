@@ -1,5 +1,5 @@
 -- What is due of a monitor after what it heard.
-use Rattle.std.specs.Prelude.{ℕ, List, [], ◌∷◌, Some, None, Ok, Err, Option, Result}
+use Rattle.std.specs.Prelude.{ℕ, List, Some, None, Ok, Err, Option, Result}
 use Rattle.pdu.specs.declared.refusal.Refusal.{Refusal}
 use Rattle.pdu.specs.declared.refusal.Refusal.TheVariants.{HeadSettingOrPlace}
 use Rattle.message.specs.declared.place.Place.{Place}

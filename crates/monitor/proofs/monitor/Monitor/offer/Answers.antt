@@ -1,4 +1,4 @@
-use Rattle.std.proofs.Common.{◌≡◌, ℕ, true, ◌∷◌, Ok, Err, sym, refl, ap, ◌∙◌, subst, arith}
+use Rattle.std.proofs.Common.{◌≡◌, ℕ, true, ◌∷◌, sym, refl, ap, ◌∙◌, subst, arith}
 use Rattle.std.proofs.lemmas.Result.{err_from_is_err_and}
 use Rattle.gatherer.specs.Due.{refusal_in}
 use Rattle.transport.specs.Transport.{read_with, second_lawful}
@@ -39,8 +39,8 @@ returns-in-Some g c =
           accepted f h c.args.bytes.now said c.hear-answer.result c.hear.new.self read_by_lem one.answer_is (subst (λ o. Holds f (then_heard o (heard said.first ∷ ks)) c.hear.new.self) (sym c.in-Some.is) two.holds);
     }
 
-pub returns-in-default : goal.returns-in-default
-returns-in-default g c =
+pub returns-in_default : goal.returns-in_default
+returns-in_default g c =
     let said = c.in_ok-contents.contents in
     let read = sym c.read.ensures ∙ c.in_ok-contents.was in
     record {
@@ -52,5 +52,5 @@ returns-in-default g c =
           let read_by_lem = ap (λ l. read_with l c.args.bytes.now) (sym (own_families f ks c.args.self.now k)) ∙ read in
           let lawful = read_lawful (lawful_in f) c.args.bytes.now said read_by_lem in
           let one = c.hear-answer.ensures n m e ks k lawful.0 in
-          accepted f h c.args.bytes.now said c.hear-answer.result c.hear-answer.new.self read_by_lem one.answer_is (subst (λ o. Holds f (then_heard o (heard said.first ∷ ks)) c.hear-answer.new.self) (sym c.in-default.is) one.holds);
+          accepted f h c.args.bytes.now said c.hear-answer.result c.hear-answer.new.self read_by_lem one.answer_is (subst (λ o. Holds f (then_heard o (heard said.first ∷ ks)) c.hear-answer.new.self) (sym c.in_default.is) one.holds);
     }

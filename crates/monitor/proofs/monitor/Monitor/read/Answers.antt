@@ -1,4 +1,4 @@
-use Rattle.std.proofs.Common.{◌≡◌, ap, ◌∙◌}
+use Rattle.std.proofs.Common.{ap, ◌∙◌}
 use Rattle.transport.specs.Transport.{lawful_at, read_with}
 use Rattle.monitor.proofs.monitor.Monitor.read.Goals as goal
 
