@@ -1,5 +1,5 @@
 -- A run at one place: its calls and events are those that the card and the monitor have there, and it is relayed there.
-use Rattle.std.proofs.Common.{◌≡◌, ℕ, Bool, true, false, cond, ◌&&◌, eqb, ◌⊎◌, List, [], ◌∷◌, Some, None, Ok, Err, Option, Result, sym, refl, ap, ◌∙◌, subst, inl, inr, arith}
+use Rattle.std.proofs.Common.{◌≡◌, ℕ, Bool, true, false, cond, eqb, List, [], ◌∷◌, Some, None, Ok, Err, Option, Result, sym, refl, ap, ◌∙◌, subst, inl, inr, arith}
 use Rattle.pdu.specs.declared.refusal.Refusal.{Refusal}
 use Rattle.message.specs.declared.message.Message.{Message}
 use Rattle.message.specs.declared.place.Place.{Place}
@@ -8,17 +8,17 @@ use Rattle.contents.specs.declared.contents.Contents.{Contents}
 use Rattle.transport.specs.declared.head.Head.{Head}
 use Rattle.transport.specs.Transport.{read_with, frame_in}
 use Rattle.transport.specs.Families.{Families, PlaceOf, lawful_in}
-use Rattle.gatherer.specs.Series.{accepted, forgotten}
-use Rattle.airing.specs.Calls.{Call as PlaceCall, stored, withdrawn, drawn}
+use Rattle.gatherer.specs.Series.{forgotten}
+use Rattle.airing.specs.Calls.{Call as PlaceCall, withdrawn}
 use Rattle.airing.specs.Due.{frame_drawn}
 use Rattle.reception.specs.Runs as place
 use Rattle.reception.specs.Runs.{Step as PlaceStep, monitor_events, frame_last_drawn}
 use Rattle.card.specs.Calls.{Call as CardCall, store, withdraw, draw, turn_after, turn_of, own_record, call_at, with_call, calls_at}
 use Rattle.card.specs.Due.{StationOf, frame_or_station, frame_at_turn, contents_due}
 use Rattle.card.proofs.Projected.{store_skipped}
-use Rattle.monitor.specs.Calls.{offer, forget, hearings, offer_heard, then_heard, contents_heard, then_accepted, events_at}
+use Rattle.monitor.specs.Calls.{offer, forget, hearings, offer_heard, then_heard, then_accepted, events_at}
 use Rattle.station_information.specs.Hearings.{Hearing, heard}
-use Rattle.air.specs.Runs.{Step, card, monitor, card_calls, monitor_calls, contents_last_drawn, IsCopy, IsRefused, Relayed}
+use Rattle.air.specs.Runs.{Step, card, monitor, card_calls, monitor_calls, contents_last_drawn, Relayed}
 use Rattle.air.specs.Places.{with_card_step, with_frame_step, with_second_step, with_offer_steps, steps_at}
 
 module _ {T : Type 0} where

@@ -1,5 +1,5 @@
 -- What the monitor shows at each place, and what the calls of a link come to.
-use Rattle.std.proofs.Common.{◌≡◌, ℕ, ◌≤◌, cond, eqb, List, [], ◌∷◌, length, Some, None, Ok, Err, Result, sym, refl, ap, ◌∙◌, subst, arith}
+use Rattle.std.proofs.Common.{◌≡◌, ℕ, ◌≤◌, cond, eqb, List, length, None, Ok, Err, Result, sym, ap, ◌∙◌, subst, arith}
 use Rattle.pdu.specs.declared.refusal.Refusal.{Refusal}
 use Rattle.message.specs.Results.{and_then}
 use Rattle.contents.specs.declared.contents.Contents.{Contents}
@@ -23,9 +23,9 @@ use Rattle.card.specs.Calls.{Call as CardCall, turn_after, turn_of, calls_at}
 use Rattle.card.specs.Due.{StationOf, contents_due}
 use Rattle.card.specs.Agrees.{Agrees}
 use Rattle.card.proofs.Rounding.{frame_of_turn}
-use Rattle.monitor.specs.Calls.{Call as MonitorCall, hearings, events_at}
+use Rattle.monitor.specs.Calls.{Call as MonitorCall, hearings}
 use Rattle.monitor.specs.Due.{message_answer, offer_due}
-use Rattle.air.specs.Runs.{Step, card_calls, monitor_calls, Relayed}
+use Rattle.air.specs.Runs.{Step, card_calls, Relayed}
 use Rattle.air.specs.Places.{steps_at, ShowsAt, ShowsTexts}
 use Rattle.air.proofs.Projected.{card_part, monitor_part, relayed_part}
 

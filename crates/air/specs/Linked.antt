@@ -1,5 +1,5 @@
 -- A card and a monitor after one run, and the PDU between them.
-use Rattle.std.specs.Prelude.{◌≡◌, ℕ, List, [], ◌∷◌, Some, None, Ok, Err, Option, Result}
+use Rattle.std.specs.Prelude.{◌≡◌, ℕ, List, ◌∷◌, Some, None, Ok, Err, Option, Result}
 use Rattle.std.specs.Result.{result_ok}
 use Rattle.pdu.specs.declared.refusal.Refusal.{Refusal}
 use Rattle.pdu.specs.declared.refusal.Refusal.TheVariants.{NothingThere}
@@ -11,11 +11,11 @@ use Rattle.transport.specs.declared.head.Head.{Head}
 use Rattle.transport.specs.Transport.{read_with}
 use Rattle.transport.specs.Families.{Families, lawful_in}
 use Rattle.airing.specs.declared.stored.Stored.{Stored}
-use Rattle.card.specs.Calls.{Call as CardCall, store, withdraw, draw}
+use Rattle.card.specs.Calls.{Call as CardCall, store, draw}
 use Rattle.card.specs.Due.{StationOf, contents_due, store_due}
 use Rattle.card.specs.Agrees.{Agrees as CardAgrees}
 use Rattle.monitor.specs.declared.answer.OfferAnswer.{OfferAnswer}
-use Rattle.monitor.specs.Calls.{Call as MonitorCall, offer, forget}
+use Rattle.monitor.specs.Calls.{offer}
 use Rattle.monitor.specs.Due.{offer_due}
 use Rattle.monitor.specs.Agrees.{Agrees as MonitorAgrees}
 use Rattle.air.specs.declared.link.Link.{Link}

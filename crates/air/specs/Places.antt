@@ -17,7 +17,7 @@ use Rattle.reception.specs.Order.{ShowsChanges}
 use Rattle.reception.specs.Arrival.{RoundHeard}
 use Rattle.card.specs.Calls.{call_at, calls_at}
 use Rattle.monitor.specs.Calls.{offer, forget, hearings, events_at}
-use Rattle.air.specs.Runs.{Step, card, monitor, card_calls, monitor_calls, Relayed}
+use Rattle.air.specs.Runs.{Step, card, monitor, card_calls, monitor_calls}
 
 -- A call of the card's place, if there is one, before the other steps.
 abbrev pub with_card_step : {T : Type 0} → Option (PlaceCall T) → List (PlaceStep T) → List (PlaceStep T)

@@ -1,4 +1,4 @@
--- Division of polynomials over two elements. A polynomial is a number whose binary digit k is the coefficient of X^k: the sum is bitXor, and times X is times 2. A list of coefficients has the highest power first.
+-- Division of polynomials over two elements. A polynomial is a number whose binary digit k is the coefficient of X^k: the sum is bit_xor, and times X is times 2. A list of coefficients has the highest power first.
 use Rattle.std.specs.Prelude.{◌≡◌, ℕ, ◌+◌, ◌*◌, ◌^◌, ◌<◌, cond, List, [], ◌∷◌, length, bit_xor, nat_lt}
 use Rattle.std.specs.List.{AllByRecursion}
 

@@ -1,4 +1,4 @@
-use Rattle.std.proofs.Common.{◌≡◌, ◌∷◌, sym, subst, inl}
+use Rattle.std.proofs.Common.{◌∷◌, sym, subst, inl}
 use Rattle.transport.specs.Families.{families}
 use Rattle.monitor.specs.Calls.{offer}
 use Rattle.air.specs.Runs.{monitor, monitor_calls}

@@ -1,6 +1,5 @@
-use Rattle.std.proofs.Common.{◌≡◌, ◌∷◌, sym, ◌∙◌, inr}
-use Rattle.transport.specs.Transport.{read_with}
-use Rattle.transport.specs.Families.{families, lawful_in}
+use Rattle.std.proofs.Common.{◌∷◌, sym, ◌∙◌, inr}
+use Rattle.transport.specs.Families.{families}
 use Rattle.monitor.specs.Calls.{offer}
 use Rattle.air.specs.Runs.{monitor, monitor_calls}
 use Rattle.air.proofs.Shown.{shows_texts, not_read}
