@@ -2,7 +2,7 @@
 #![tactic(auto)]
 
 pub mod alert;
+pub mod alert_family;
 pub mod division;
 pub mod divisor;
-pub mod family;
 pub mod setting;

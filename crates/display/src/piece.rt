@@ -3,7 +3,7 @@ ghost use Rattle.std.specs.Prelude.{◌≡◌};
 ghost use Rattle.display.specs.Pieces.{pieces_view, pieces_due};
 
 use alert::alert::AlertHead;
-use alert::family::refusal_of;
+use alert::alert_family::refusal_of;
 use pdu::refusal::Refusal;
 
 // Bytes of a buffer, with the place where they begin in it.

@@ -33,7 +33,7 @@ pub loop-zero-preserved : goal.loop-zero-preserved
 loop-zero-preserved c =
     let d = c.args.self.degree in
     let G = 2 ^ d + c.args.self.generator in
-    let k = c.loop-zero.-zero in
+    let k = c.loop-zero._zero in
     let told = c.bring_down-remainder.ensures in
     let e = divided_zero d G c.loop-zero.remainder d k (omega arith) in
     (told.small, ap (λ (y : ℕ). divided d G y (replicate (d - (k + 1)) 0)) told.value ∙ sym e ∙ c.loop-zero.invariant.1)
@@ -44,7 +44,7 @@ returns c =
     let g = c.args.self.generator in
     let t = c.args.bytes.now in
     let x = c.loop-zero.remainder in
-    let e : d - c.loop-zero.-zero ≡ 0 = omega arith in
+    let e : d - c.loop-zero._zero ≡ 0 = omega arith in
     let z = ap (λ (n : ℕ). divided d (2 ^ d + g) x (replicate n 0)) e ∙ divided_none d (2 ^ d + g) x in
     let v = sym z ∙ c.loop-zero.invariant.1 in
     record { value = v; law = subst (OnlyRemainder d g (dividend d t)) (sym v) (remainder_only d g t c.args.self.low) }

@@ -13,4 +13,4 @@ invariant-loop-byte l =
 abbrev pub invariant-loop-zero : goal.invariant-loop-zero
 invariant-loop-zero l =
     (l.remainder < 2 ^ l.self.degree)
-    × (divided l.self.degree (2 ^ l.self.degree + l.self.generator) l.remainder (replicate (l.self.degree - l.-zero) 0) ≡ text_remainder l.self.degree l.self.generator l.bytes)
+    × (divided l.self.degree (2 ^ l.self.degree + l.self.generator) l.remainder (replicate (l.self.degree - l._zero) 0) ≡ text_remainder l.self.degree l.self.generator l.bytes)

@@ -84,7 +84,7 @@ fn reserved_in(frame: Payload) -> u64
     (frame >> 48) % 4
 }
 
-fn head_in_lem(frame: Payload) -> AlertHead
+fn head_in(frame: Payload) -> AlertHead
     ensures { result ≡ head_in frame }
 {
     AlertHead {
@@ -145,7 +145,7 @@ impl Family for Alert {
         if frame >= 1 << 58 || reserved_in(frame) != 0 {
             return false;
         }
-        number_in(frame) != 0 || refusal_of(head_in_lem(frame), length_in(frame)).is_none()
+        number_in(frame) != 0 || refusal_of(head_in(frame), length_in(frame)).is_none()
     }
 
     fn number(&self, frame: Payload) -> Result<usize, Refusal> {
@@ -169,7 +169,7 @@ impl Family for Alert {
     fn join(&self, frames: &[Payload]) -> Option<Record<AlertHead>> {
         let first = frame_or_zero(frames, 0);
         let record = Record {
-            head: head_in_lem(first),
+            head: head_in(first),
             text: LAYOUT.text_in(frames, length_in(first).min(LONGEST)),
         };
         if self.refusal(&record).is_some() {

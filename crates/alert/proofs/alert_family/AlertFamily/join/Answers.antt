@@ -4,7 +4,7 @@ use Rattle.alert.specs.declared.alert.AlertHead.{AlertHead}
 use Rattle.layout.proofs.Records.{none_if, cuttable}
 use Rattle.alert.specs.Alert.{alert_layout}
 use Rattle.alert.specs.Sound.{sound}
-use Rattle.alert.proofs.family.AlertFamily.join.Goals as goal
+use Rattle.alert.proofs.alert_family.AlertFamily.join.Goals as goal
 
 pub is_cut-requires : goal.is_cut-requires
 is_cut-requires c =

@@ -3,7 +3,7 @@ use Rattle.std.proofs.lemmas.Result.{err_from_is_err_and}
 use Rattle.layout.proofs.Records.{counted, cuttable, near, frame_due_lem, frame_refused}
 use Rattle.alert.specs.Alert.{alert_layout}
 use Rattle.alert.specs.Sound.{sound}
-use Rattle.alert.proofs.family.AlertFamily.frame.Goals as goal
+use Rattle.alert.proofs.alert_family.AlertFamily.frame.Goals as goal
 
 pub frame-requires : goal.frame-requires
 frame-requires c =
