@@ -1,17 +1,14 @@
 -- The verdict, from the counts of a run.
-use Rattle.std.proofs.Common.{◌≡◌, ℕ, ◌≤◌, Bool, true, false, cond, ◌&&◌, eqb, leb, List, refl, ap, arith}
+use Rattle.std.proofs.Common.{◌≡◌, ℕ, Bool, true, false, cond, ◌&&◌, eqb, leb, List, refl, arith}
 use Rattle.std.proofs.lemmas.Bool.{eqb-true, leb-true, and_parts}
 use Rattle.family.specs.Meaning.{Laws}
 use Rattle.transport.specs.declared.head.Head.{Head}
 use Rattle.transport.specs.Families.{Families}
 use Rattle.card.specs.Due.{StationOf}
 use Rattle.air.specs.Runs.{Step}
-use Rattle.air.specs.Places.{ShowsAt}
 use Rattle.air.proofs.Shown.{shows_texts}
 use Rattle.bench.specs.declared.bench.Bench.{Bench}
-use Rattle.bench.specs.declared.bench.Verdict.{Verdict}
 use Rattle.bench.specs.declared.bench.Verdict.TheVariants.{Covered, NotCovered}
-use Rattle.bench.specs.declared.tally.Tally.{Tally}
 use Rattle.bench.specs.Ran.{Ran, ShowsAllChanges, few_at_each, verdict_on}
 
 covered_if : (b : Bool) → cond b Covered NotCovered ≡ Covered → b ≡ true

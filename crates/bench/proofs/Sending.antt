@@ -1,23 +1,22 @@
 -- What a fade leaves of a PDU, from what the monitor heard.
-use Rattle.std.proofs.Common.{◌≡◌, ℕ, ◌+◌, Bool, true, false, cond, ◌&&◌, List, [], ◌∷◌, Some, None, Ok, Err, Option, Result, sym, refl, ap, ◌∙◌, subst, arith}
-use Rattle.std.specs.Result.{result_ok}
+use Rattle.std.proofs.Common.{◌≡◌, ℕ, Bool, true, false, ◌&&◌, List, ◌∷◌, Some, None, Ok, Err, Option, Result, sym, refl, ap, ◌∙◌, arith}
 use Rattle.pdu.specs.declared.refusal.Refusal.{Refusal}
 use Rattle.pdu.specs.declared.pdu.Pdu.{Pdu}
 use Rattle.transport.specs.declared.head.Head.{Head}
-use Rattle.transport.specs.Families.{Families, PlaceOf, name_place, message_place, alert_place}
+use Rattle.transport.specs.Families.{Families, name_place, message_place, alert_place}
 use Rattle.card.specs.Calls.{draw}
 use Rattle.card.specs.Due.{StationOf}
 use Rattle.monitor.specs.declared.answer.OfferAnswer.{OfferAnswer}
 use Rattle.monitor.specs.Calls.{offer}
 use Rattle.air.specs.declared.link.Link.{Link}
-use Rattle.air.specs.Runs.{Step, card, monitor, card_calls, monitor_calls, Relayed}
-use Rattle.air.specs.Linked.{Linked, DrawnSo, OfferedSo, HeardSo, SpoiltSo}
+use Rattle.air.specs.Runs.{Step, card, monitor, Relayed}
+use Rattle.air.specs.Linked.{HeardSo, SpoiltSo}
 use Rattle.bench.specs.declared.bench.Bench.{Bench}
 use Rattle.fading.specs.declared.fade.Fade.{Fade}
-use Rattle.fading.specs.declared.fade.Fade.TheVariants.{Heard, Lost, Doubled, Turned}
+use Rattle.fading.specs.declared.fade.Fade.TheVariants.{Heard, Doubled, Turned}
 use Rattle.fading.specs.Fades.{bit_turned}
 use Rattle.bench.specs.Counts.{stopped, counted_if, is_turned, is_accepted, tally_after_pdu}
-use Rattle.bench.specs.Ran.{changes_in, Ran, offers_of, with_offers, passed_run, SentSo}
+use Rattle.bench.specs.Ran.{Ran, offers_of, passed_run, SentSo}
 use Rattle.bench.proofs.Counting.{draw_no_change}
 
 module _ {N T M U E V : Type 0} (f : Families N T M U E V) (st : StationOf) (a : List (Step (Head T U V))) (p : Pdu) where

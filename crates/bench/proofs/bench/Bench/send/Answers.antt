@@ -1,9 +1,8 @@
-use Rattle.std.proofs.Common.{◌≡◌, ◌∷◌, Some, None, sym, refl, ap, ◌∙◌, subst}
+use Rattle.std.proofs.Common.{◌∷◌, Some, None, sym, refl, ◌∙◌, subst}
 use Rattle.transport.specs.Families.{families}
 use Rattle.monitor.specs.Calls.{offer}
 use Rattle.air.specs.Runs.{monitor}
 use Rattle.air.specs.Linked.{Heard as HeardBy, SpoiltSo}
-use Rattle.fading.specs.Fades.{bit_turned}
 use Rattle.bench.specs.Ran.{SentSo}
 use Rattle.bench.proofs.Sending.{sent_once, sent_twice, sent_turned}
 use Rattle.bench.proofs.bench.Bench.send.Goals as goal

@@ -1,4 +1,4 @@
-use Rattle.std.proofs.Common.{◌≡◌, refl, ap, ◌∙◌}
+use Rattle.std.proofs.Common.{ap, ◌∙◌}
 use Rattle.family.specs.Texts.{record_view}
 use Rattle.transport.specs.Families.{families}
 use Rattle.bench.proofs.Counting.{name_counted, message_counted, alert_counted}

@@ -1,4 +1,4 @@
-use Rattle.std.proofs.Common.{◌≡◌, sym, refl, ◌∙◌, rules}
+use Rattle.std.proofs.Common.{◌≡◌, sym, rules}
 use Rattle.transport.specs.Families.{families}
 use Rattle.bench.specs.Ran.{verdict_on}
 use Rattle.bench.specs.declared.bench.Verdict.TheVariants.{Covered}
