@@ -1,8 +1,8 @@
 -- What the exercise does at the card.
-use Rattle.std.specs.Prelude.{◌≡◌, ℕ, zero, suc, List, [], ◌∷◌, Ok, Result}
+use Rattle.std.specs.Prelude.{◌≡◌, ℕ, zero, suc, List, ◌∷◌, Ok, Result}
 use Rattle.std.specs.declared.alloc.AllocError.{AllocError}
 use Rattle.family.specs.Meaning.{RecordOf}
-use Rattle.family.specs.Texts.{record_view, bytes_of}
+use Rattle.family.specs.Texts.{bytes_of}
 use Rattle.family.specs.declared.text.Record.{Record}
 use Rattle.transport.specs.declared.head.Head.{Head}
 use Rattle.transport.specs.declared.head.Head.TheVariants.{Name, Message, Alert}

@@ -1,7 +1,7 @@
 -- The payload sizes.
 use Rattle.std.proofs.Common.{◌≡◌, ℕ, zero, suc, ◌*◌, ◌%◌, ◌^◌, ◌<◌, ◌≤◌, List, [], ◌∷◌, get_or, Some, None, Option, ap, ◌∙◌, subst, mod-eq_of_lt, one-mul, arith, lit≤}
 use lib.Pow.{pow-lt}
-use Rattle.std.specs.List.{AllByRecursion as All}
+use Rattle.std.specs.List.{AllByRecursion}
 use Rattle.message.specs.Message.{sizes, size_of}
 
 -- no size is above 58
@@ -9,10 +9,10 @@ abbrev Small : Option ℕ → Type 0
 Small None = Unit {0}
 Small (Some s) = s ≤ 58
 
-sizes_small : All Small sizes
+sizes_small : AllByRecursion Small sizes
 sizes_small = (lit≤ tt, (lit≤ tt, (lit≤ tt, (tt, (lit≤ tt, (lit≤ tt, (lit≤ tt, (lit≤ tt, (lit≤ tt, (lit≤ tt, (tt, (tt, (tt, (tt, (tt, (tt, tt))))))))))))))))
 
-small_at : (xs : List (Option ℕ)) → All Small xs → (n : ℕ) → Small (get_or xs n None)
+small_at : (xs : List (Option ℕ)) → AllByRecursion Small xs → (n : ℕ) → Small (get_or xs n None)
 small_at [] h n = tt
 small_at (x ∷ xs) h zero = h.0
 small_at (x ∷ xs) h (suc n) = small_at xs h.1 n

@@ -1,7 +1,5 @@
-use Rattle.std.proofs.Common.{◌≡◌, ℕ, true, ◌∷◌, is_err, sym, ap, ◌∙◌, add-one, arith}
+use Rattle.std.proofs.Common.{◌≡◌, ℕ, ◌∷◌, is_err, sym, ap, ◌∙◌, add-one, arith}
 use Rattle.card.specs.Calls.{draw}
-use Rattle.air.specs.Runs.{card_calls}
-use Rattle.course.specs.Exercise.{drawn_times}
 use Rattle.course.proofs.exercise.running.pass_many.Goals as goal
 
 pub returns-in_err-pass_one : goal.returns-in_err-pass_one
