@@ -10,8 +10,8 @@ none_if : (o : Option Refusal) → ((e : Refusal) → o ≡ Some e → ⊥) → 
 none_if None f = refl
 none_if (Some e) f = absurd (f e refl)
 
-both-given : (a b x y : Option ℕ) → ◌≡◌ {A = Result (Option ℕ × Option ℕ) Refusal} (Ok (a, b)) (Ok (x, y)) → (x ≡ a) × (y ≡ b)
-both-given a b x y e = let f : ◌≡◌ {A = Option ℕ × Option ℕ} (x, y) (a, b) = cc in (ap (λ p. p.0) f, ap (λ p. p.1) f)
+both_given : (a b x y : Option ℕ) → ◌≡◌ {A = Result (Option ℕ × Option ℕ) Refusal} (Ok (a, b)) (Ok (x, y)) → (x ≡ a) × (y ≡ b)
+both_given a b x y e = let f : ◌≡◌ {A = Option ℕ × Option ℕ} (x, y) (a, b) = cc in (ap (λ p. p.0) f, ap (λ p. p.1) f)
 
 pub returns : goal.returns
 returns c s first second e i l =
@@ -24,5 +24,5 @@ returns c s first second e i l =
     let two = c.draw-second.ensures.drawn _ (drawn ∷ stored r ∷ []) one.agrees in
     let w : Round meaning_of_two s (drawn ∷ drawn ∷ stored r ∷ []) = record { before = stored r ∷ []; since = drawn ∷ drawn ∷ []; calls = refl; on_air = refl; unbroken = tt; as_many = refl } in
     let once = two.each_once w i l in
-    let given = both-given c.draw-first.result c.draw-second.result first second e in
+    let given = both_given c.draw-first.result c.draw-second.result first second e in
     rw (given.1 ∙ two.frame_is, given.0 ∙ one.frame_is) once
