@@ -60,16 +60,16 @@ module _ {S T : Type 0} (m : Meaning S T) (s : S) where
   last_drawn_since h (drawn ∷ since) x e = inl (rw e (inl refl))
 
   -- the latest events are that the frames drawn since, and no others, were accepted: all but the latest, if that is heard later
-  record AcceptedSince (events : List Event) (given : List ℕ) (last : Option ℕ) (heardAfter : Bool) : Type 0 where
+  record AcceptedSince (events : List Event) (given : List ℕ) (last : Option ℕ) (heard_now : Bool) : Type 0 where
     frames : List ℕ
     earlier : List Event
     events_are : events ≡ accepted_after frames earlier
     no_other : (x : ℕ) → In x frames → In x given
-    every : (x : ℕ) → In x given → In x frames ⊎ ((heardAfter ≡ true) × (last ≡ Some x))
+    every : (x : ℕ) → In x given → In x frames ⊎ ((heard_now ≡ true) × (last ≡ Some x))
 
   -- one more draw
-  accepted_drawn : (events : List Event) (given : List ℕ) (before last : Option ℕ) (heardAfter : Bool) → heardAfter ≡ true → AcceptedSince events given before false → AcceptedSince events (with_frame last given) last heardAfter
-  accepted_drawn events given before last heardAfter heard k = record {
+  accepted_drawn : (events : List Event) (given : List ℕ) (before last : Option ℕ) (heard_now : Bool) → heard_now ≡ true → AcceptedSince events given before false → AcceptedSince events (with_frame last given) last heard_now
+  accepted_drawn events given before last heard_now heard k = record {
     frames = k.frames;
     earlier = k.earlier;
     events_are = k.events_are;
@@ -84,8 +84,8 @@ module _ {S T : Type 0} (m : Meaning S T) (s : S) where
   }
 
   -- one more frame accepted
-  accepted_more : (events : List Event) (given : List ℕ) (last : Option ℕ) (heardAfter : Bool) (x : ℕ) → last ≡ Some x → In x given ⊎ (given ≡ []) → AcceptedSince events given last true → AcceptedSince (accepted x ∷ events) given last heardAfter
-  accepted_more events given last heardAfter x e (inl i) k = record {
+  accepted_more : (events : List Event) (given : List ℕ) (last : Option ℕ) (heard_now : Bool) (x : ℕ) → last ≡ Some x → In x given ⊎ (given ≡ []) → AcceptedSince events given last true → AcceptedSince (accepted x ∷ events) given last heard_now
+  accepted_more events given last heard_now x e (inl i) k = record {
     frames = x ∷ k.frames;
     earlier = k.earlier;
     events_are = ap (λ (l : List Event). accepted x ∷ l) k.events_are;
@@ -95,21 +95,21 @@ module _ {S T : Type 0} (m : Meaning S T) (s : S) where
       | inr now ↦ inl (inl (let f : last ≡ Some y = now.1 in let same : y ≡ x = cc in same))
     ];
   }
-  accepted_more events given last heardAfter x e (inr none) k = record { frames = []; earlier = accepted x ∷ events; events_are = refl; no_other = λ y j. absurd j; every = λ y j. absurd (subst (In y) none j) }
+  accepted_more events given last heard_now x e (inr none) k = record { frames = []; earlier = accepted x ∷ events; events_are = refl; no_other = λ y j. absurd j; every = λ y j. absurd (subst (In y) none j) }
 
-  accepted_since : (before since : List (Step T)) (heardAfter : Bool) → EveryDrawHeard m s before heardAfter since →
-      AcceptedSince (monitor_events (since ++ before)) (frames_since m s (card_calls before) (card_calls since)) (frame_last_drawn m s (card_calls since ++ card_calls before)) heardAfter
-  accepted_since before [] heardAfter heard = record { frames = []; earlier = monitor_events before; events_are = refl; no_other = λ x i. i; every = λ x i. absurd i }
-  accepted_since before (card (stored r) ∷ since) heardAfter heard = accepted_since before since heardAfter heard
-  accepted_since before (card withdrawn ∷ since) heardAfter heard = accepted_since before since heardAfter heard
-  accepted_since before (monitor forgotten ∷ since) heardAfter heard = absurd heard
-  accepted_since before (card drawn ∷ since) heardAfter heard =
+  accepted_since : (before since : List (Step T)) (heard_now : Bool) → EveryDrawHeard m s before heard_now since →
+      AcceptedSince (monitor_events (since ++ before)) (frames_since m s (card_calls before) (card_calls since)) (frame_last_drawn m s (card_calls since ++ card_calls before)) heard_now
+  accepted_since before [] heard_now heard = record { frames = []; earlier = monitor_events before; events_are = refl; no_other = λ x i. i; every = λ x i. absurd i }
+  accepted_since before (card (stored r) ∷ since) heard_now heard = accepted_since before since heard_now heard
+  accepted_since before (card withdrawn ∷ since) heard_now heard = accepted_since before since heard_now heard
+  accepted_since before (monitor forgotten ∷ since) heard_now heard = absurd heard
+  accepted_since before (card drawn ∷ since) heard_now heard =
       let h = card_calls since ++ card_calls before in
-      accepted_drawn (monitor_events (since ++ before)) (frames_since m s (card_calls before) (card_calls since)) (frame_last_drawn m s h) (frame_drawn m s h) heardAfter heard.0 (accepted_since before since false heard.1)
-  accepted_since before (monitor (accepted x) ∷ since) heardAfter heard =
+      accepted_drawn (monitor_events (since ++ before)) (frames_since m s (card_calls before) (card_calls since)) (frame_last_drawn m s h) (frame_drawn m s h) heard_now heard.0 (accepted_since before since false heard.1)
+  accepted_since before (monitor (accepted x) ∷ since) heard_now heard =
       let h = card_calls since ++ card_calls before in
       let e : frame_last_drawn m s h ≡ Some x = ap (frame_last_drawn m s) (sym (card_calls_append since before)) ∙ heard.0 in
-      accepted_more (monitor_events (since ++ before)) (frames_since m s (card_calls before) (card_calls since)) (frame_last_drawn m s h) heardAfter x e (last_drawn_since (card_calls before) (card_calls since) x e) (accepted_since before since true heard.1)
+      accepted_more (monitor_events (since ++ before)) (frames_since m s (card_calls before) (card_calls since)) (frame_last_drawn m s h) heard_now x e (last_drawn_since (card_calls before) (card_calls since) x e) (accepted_since before since true heard.1)
 
 module _ {S T : Type 0} (m : Meaning S T) (laws : Laws m) (s : S) where
   round_arrives : (before since : List (Step T)) → LawfulRecords m s (card_calls before) → on_air (card_calls before) ≡ true → Unbroken (card_calls since) (card_calls before) → EveryDrawHeard m s before false since →
