@@ -60,7 +60,7 @@ pub record HeardSo {N T M U E V : Type 0} (f : Families N T M U E V) (st : Stati
   pub relayed : Relayed f st a → Relayed f st (monitor (offer p.bytes) ∷ a)
   pub shows : Relayed f st a → ShowsTexts f (monitor (offer p.bytes) ∷ a)
 
--- What hearing comes to: refused where no PDU was drawn, with everything as found.
+-- What hearing comes to: refused where no PDU was drawn.
 abbrev pub Heard : {N T M U E V : Type 0} → Families N T M U E V → StationOf → List (Step (Head T U V)) → Option Pdu → Result OfferAnswer Refusal → Link N M E T U V → Type 0
 Heard f st a None answer l = (answer ≡ Err NothingThere) × Linked f st a l
 Heard f st a (Some p) answer l = HeardSo f st a p answer l

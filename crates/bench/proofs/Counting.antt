@@ -1,6 +1,6 @@
 -- The changes of a run, counted.
-use Rattle.std.proofs.Common.{◌≡◌, ℕ, ◌+◌, Bool, true, false, cond, ◌&&◌, eqb, List, [], ◌∷◌, length, Some, None, Ok, Option, Result, sym, refl, ap, ◌∙◌, inl, inr, add-zero, add-one, arith}
-use Rattle.std.proofs.lemmas.Bool.{cases_eq, eq-eqb, ne_eqb}
+use Rattle.std.proofs.Common.{◌≡◌, ℕ, ◌+◌, Bool, true, false, cond, ◌&&◌, eqb, List, [], ◌∷◌, length, Some, None, Ok, Err, Option, Result, sym, refl, ap, ◌∙◌, inl, inr, add-zero, add-one, arith}
+use Rattle.std.proofs.lemmas.Bool.{cases_eq, eq-eqb, ne_eqb, and_right}
 use Rattle.pdu.specs.declared.refusal.Refusal.{Refusal}
 use Rattle.message.specs.Place.{place_number}
 use Rattle.family.specs.Meaning.{RecordOf, unless}
@@ -13,7 +13,8 @@ use Rattle.airing.specs.Due.{answer_due}
 use Rattle.card.specs.Calls.{Call as CardCall, store, draw, turn_after, turn_of, own_record, store_unless, store_of, with_call, calls_at}
 use Rattle.card.specs.Due.{own_store_due, store_due_at, store_due}
 use Rattle.air.specs.Runs.{Step, card, card_calls}
-use Rattle.bench.specs.Counts.{stopped, counted_if, is_changed}
+use Rattle.bench.specs.declared.tally.Changes.{Changes}
+use Rattle.bench.specs.Counts.{stopped, counted_if, is_changed, changes_after}
 use Rattle.bench.specs.Ran.{changes_in, with_offers}
 
 -- one more change, where an own record was answered so
@@ -25,6 +26,10 @@ own_counted f (Some r) h =
     let lawful : (b : Bool) → Q b = λ b. elim b as Q [ true ↦ sym (add-one (length (changes h))) | false ↦ sym (add-zero (length (changes h))) ] in
     let P : Option Refusal → Type 0 = λ e. length (changes (with_call (store_unless e r) h)) ≡ length (changes h) + cond (is_changed (unless e (Ok (answer_due h r)))) 1 0 in
     elim (f.meaning.refusal f.setting r) as P [ None ↦ lawful (is_change h r) | Some e ↦ sym (add-zero (length (changes h))) ]
+
+-- a refused store counts nothing
+pub refused_counts_none : (n : ℕ) (answer : Result Stored Refusal) (e : Refusal) (c : Changes) → answer ≡ Err e → changes_after n answer c ≡ c
+refused_counts_none n answer e c is = rw (is, and_right (eqb n 2) false refl, and_right (eqb n 5) false refl, and_right (eqb n 9) false refl) refl
 
 -- the count goes on with the changes
 count_step : (b : Bool) (count before after : ℕ) → count ≡ stopped before → after ≡ before + cond b 1 0 → counted_if b count ≡ stopped after

@@ -31,6 +31,7 @@ changes_after n answer c = record {
   alert = counted_if (n == 9 && is_changed answer) c.alert;
 }
 
+-- The counts after a store at a message number with this answer.
 abbrev pub tally_after_store : ℕ → Result Stored Refusal → Tally → Tally
 tally_after_store n answer t = record {
   drawn = t.drawn;
@@ -41,18 +42,21 @@ tally_after_store n answer t = record {
   changes = changes_after n answer t.changes;
 }
 
+-- Whether a fade lost the PDU.
 abbrev pub is_lost : Fade → Bool
 is_lost Heard = false
 is_lost Lost = true
 is_lost Doubled = false
 is_lost (Turned b) = false
 
+-- Whether it doubled the PDU.
 abbrev pub is_doubled : Fade → Bool
 is_doubled Heard = false
 is_doubled Lost = false
 is_doubled Doubled = true
 is_doubled (Turned b) = false
 
+-- Whether it turned a bit of the PDU.
 abbrev pub is_turned : Fade → Bool
 is_turned Heard = false
 is_turned Lost = false

@@ -12,7 +12,7 @@ use Rattle.monitor.specs.declared.answer.OfferAnswer.{OfferAnswer}
 use Rattle.monitor.specs.Calls.{Call, offer, hearings, events_at}
 use Rattle.monitor.specs.Due.{message_answer, offer_due}
 
--- The monitor is what was heard leads to, with these families.
+-- The monitor is what the messages heard lead to, with these families.
 pub record Holds {N T M U E V : Type 0} (f : Families N T M U E V) (k : List Hearing) (w : Monitor N M E T U V) : Type 0 where
   pub name_agrees : AgreesAt f.name.meaning f.name.setting (events_at Name k) w.name
   pub message_agrees : AgreesAt f.message.meaning f.message.setting (events_at Message k) w.message

@@ -69,7 +69,8 @@ impl<N: Family, M: Family, E: Family> Link<N, M, E> {
 
     // Offers the PDU drawn last to the monitor; refused where none was drawn.
     pub fn hear(&mut self) -> Result<OfferAnswer, Refusal>
-        ensures { (n : N) (m : M) (e : E) (st : StationOf) (a : List (Step (Head N.Head M.Head E.Head))) → Linked (families N.Family.meaning n M.Family.meaning m E.Family.meaning e) st a self.old → Heard (families N.Family.meaning n M.Family.meaning m E.Family.meaning e) st a self.old.pdu result self.new }
+        ensures unchanged { (x : Refusal) → result ≡ Err x → self.new ≡ self.old }
+        ensures due { (n : N) (m : M) (e : E) (st : StationOf) (a : List (Step (Head N.Head M.Head E.Head))) → Linked (families N.Family.meaning n M.Family.meaning m E.Family.meaning e) st a self.old → Heard (families N.Family.meaning n M.Family.meaning m E.Family.meaning e) st a self.old.pdu result self.new }
     {
         let Some(pdu) = self.pdu else {
             return Err(Refusal::NothingThere);
@@ -79,7 +80,8 @@ impl<N: Family, M: Family, E: Family> Link<N, M, E> {
 
     // Offers other bytes to the monitor, as the air may have spoilt them.
     pub fn hear_spoilt(&mut self, bytes: &[u8]) -> Result<OfferAnswer, Refusal>
-        ensures { (n : N) (m : M) (e : E) (st : StationOf) (a : List (Step (Head N.Head M.Head E.Head))) → Linked (families N.Family.meaning n M.Family.meaning m E.Family.meaning e) st a self.old → SpoiltSo (families N.Family.meaning n M.Family.meaning m E.Family.meaning e) st a bytes.now result self.new }
+        ensures unchanged { (x : Refusal) → result ≡ Err x → self.new ≡ self.old }
+        ensures due { (n : N) (m : M) (e : E) (st : StationOf) (a : List (Step (Head N.Head M.Head E.Head))) → Linked (families N.Family.meaning n M.Family.meaning m E.Family.meaning e) st a self.old → SpoiltSo (families N.Family.meaning n M.Family.meaning m E.Family.meaning e) st a bytes.now result self.new }
     {
         self.monitor.offer(bytes)
     }

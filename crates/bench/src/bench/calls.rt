@@ -1,5 +1,6 @@
 // The calls of a bench.
-ghost use Rattle.std.specs.Prelude.{◌≡◌, List, [], ◌∷◌, Some, Ok};
+ghost use Rattle.std.specs.Prelude.{◌≡◌, List, [], ◌∷◌, Some, Ok, Err};
+ghost use Rattle.pdu.specs.declared.refusal.Refusal.{Refusal};
 ghost use Rattle.family.specs.Texts.{record_view};
 ghost use Rattle.transport.specs.declared.head.Head.{Head};
 ghost use Rattle.transport.specs.Families.{families};
@@ -67,12 +68,13 @@ impl<N: Family, M: Family, E: Family> Bench<N, M, E> {
         }
     }
 
-    // Stores a record at the card, and counts a change.
+    // Stores a record at the card, and counts a change. A refusal leaves everything as found.
     pub fn store(
         &mut self,
         number: u8,
         record: Record<Head<N::Head, M::Head, E::Head>>,
     ) -> Result<Stored, Refusal>
+        ensures unchanged { (x : Refusal) → result ≡ Err x → self.new ≡ self.old }
         ensures due { (n : N) (m : M) (e : E) (st : StationOf) (a : List (Step (Head N.Head M.Head E.Head))) → Ran (families N.Family.meaning n M.Family.meaning m E.Family.meaning e) st a self.old → StoredSo (families N.Family.meaning n M.Family.meaning m E.Family.meaning e) st a number (record_view «record») result self.new }
         ensures tally { self.new.tally ≡ tally_after_store number result self.old.tally }
     {

@@ -1,12 +1,16 @@
-use Rattle.std.proofs.Common.{ap, ◌∙◌}
+use Rattle.std.proofs.Common.{ap, ap₂, ◌∙◌}
 use Rattle.family.specs.Texts.{record_view}
 use Rattle.transport.specs.Families.{families}
-use Rattle.bench.proofs.Counting.{name_counted, message_counted, alert_counted}
+use Rattle.bench.proofs.Counting.{refused_counts_none, name_counted, message_counted, alert_counted}
 use Rattle.bench.proofs.bench.Bench.store.Goals as goal
 
 pub returns : goal.returns
 returns g c =
     let t = c.args.self.now.tally in record {
+      unchanged = λ x is.
+          let link = c.store-answer.ensures.unchanged x is in
+          let counted = c.count.ensures ∙ refused_counts_none c.args.number c.store-answer.result x t.changes is in
+          ap₂ (λ v w. record { link = v; tally = record { drawn = t.drawn; lost = t.lost; doubled = t.doubled; turned = t.turned; turned_accepted = t.turned_accepted; changes = w } }) link counted;
       due = λ n m e st a k.
           let f = families g.N.Family.meaning n g.M.Family.meaning m g.E.Family.meaning e in
           let r = record_view c.args.record in
