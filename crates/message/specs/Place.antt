@@ -1,5 +1,8 @@
 -- The places of texts.
-use Rattle.std.specs.Prelude.{ℕ, cond, Some, None, Option, ◌==◌}
+use Rattle.std.specs.Prelude.{ℕ, cond, Some, None, Option, Result, ◌==◌}
+use Rattle.std.specs.Option.{ok_or}
+use Rattle.pdu.specs.declared.refusal.Refusal.{Refusal}
+use Rattle.pdu.specs.declared.refusal.Refusal.TheVariants.{HeadSettingOrPlace}
 use Rattle.message.specs.declared.place.Place.{Place}
 use Rattle.message.specs.declared.place.Place.TheVariants.{Name, Message, Alert}
 
@@ -12,3 +15,7 @@ place_number Alert = 9
 -- The place whose frames have a message number.
 abbrev pub place_with : ℕ → Option Place
 place_with n = cond (n == 2) (Some Name) (cond (n == 5) (Some Message) (cond (n == 9) (Some Alert) None))
+
+-- That place; a number that no place has is refused.
+abbrev pub place_taken : ℕ → Result Place Refusal
+place_taken n = ok_or (place_with n) HeadSettingOrPlace

@@ -1,6 +1,8 @@
 // The places of texts: each kind of text has its message number.
 ghost use Rattle.std.specs.Prelude.{◌≡◌};
-ghost use Rattle.message.specs.Place.{place_number, place_with};
+ghost use Rattle.message.specs.Place.{place_number, place_with, place_taken};
+
+use pdu::refusal::Refusal;
 
 #[derive(Clone, Copy, PartialEq, Eq, Debug)]
 pub enum Place {
@@ -9,27 +11,47 @@ pub enum Place {
     Alert,
 }
 
+// The message number of the frames that a place takes.
+impl From<Place> for u8 {
+    ghost from_gives = { λ place number. number ≡ place_number place };
+
+    fn from(place: Place) -> u8 {
+        match place {
+            Place::Name => 2,
+            Place::Message => 5,
+            Place::Alert => 9,
+        }
+    }
+}
+
+// The place whose frames have a message number.
+impl TryFrom<u8> for Place {
+    type Error = Refusal;
+
+    ghost try_from_gives = { λ number place. place ≡ place_taken number };
+
+    fn try_from(number: u8) -> Result<Place, Refusal> {
+        match number {
+            2 => Ok(Place::Name),
+            5 => Ok(Place::Message),
+            9 => Ok(Place::Alert),
+            _ => Err(Refusal::HeadSettingOrPlace),
+        }
+    }
+}
+
 impl Place {
     // The message number of the frames that this place takes.
     pub fn number(self) -> u8
         ensures { result ≡ place_number self }
     {
-        match self {
-            Place::Name => 2,
-            Place::Message => 5,
-            Place::Alert => 9,
-        }
+        u8::from(self)
     }
 
     // The place whose frames have this message number.
     pub fn with_number(number: u8) -> Option<Place>
         ensures { result ≡ place_with number }
     {
-        match number {
-            2 => Some(Place::Name),
-            5 => Some(Place::Message),
-            9 => Some(Place::Alert),
-            _ => None,
-        }
+        Place::try_from(number).ok()
     }
 }

@@ -23,12 +23,21 @@ pub enum Refusal {
     RecordingLength = 25,
 }
 
+// The number under which a refusal is known to programs.
+impl From<Refusal> for u8 {
+    ghost from_gives = { λ refusal number. number ≡ number_of refusal };
+
+    fn from(refusal: Refusal) -> u8 {
+        refusal as u8
+    }
+}
+
 impl Refusal {
     // The number under which the refusal is known to programs.
     pub fn number(self) -> u8
         ensures { result ≡ number_of self }
     {
-        self as u8
+        u8::from(self)
     }
 
     // What was wrong, for a person.
