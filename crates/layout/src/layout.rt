@@ -1,5 +1,8 @@
 // The numbers of a layout, and the fields of one record's frames.
 
+// The 58 bits of a frame.
+pub type Payload = u64;
+
 // How the bytes of a text stand in frames.
 #[derive(Clone, Copy)]
 pub struct FrameLayout {

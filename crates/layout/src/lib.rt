@@ -1,6 +1,6 @@
 // What the frame layouts share: a text's bytes spread over frames, between leading and trailing fields.
 #![tactic(auto)]
 
+pub mod cut;
 pub mod frames;
 pub mod layout;
-pub mod refusing;
