@@ -8,7 +8,7 @@ use Rattle.layout.specs.Frames.{frame_count}
 use Rattle.layout.specs.Family.{FamilyLayout}
 use Rattle.alert.specs.declared.alert.Alert.{Alert}
 use Rattle.alert.specs.declared.alert.AlertHead.{AlertHead}
-use Rattle.alert.specs.Division.{text_remainder}
+use Rattle.pdu.specs.Dividend.{text_remainder}
 
 -- The alerts by their generator.
 abbrev pub generator_view : Result Alert Refusal → Result ℕ Refusal

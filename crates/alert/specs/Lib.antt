@@ -1,4 +1,2 @@
-pub mod Division
 pub mod Alert
 pub mod Sound
-pub mod Dividend

@@ -11,7 +11,7 @@ use Rattle.layout.proofs.Laws.{SoundLayout, frame_in, count_of, cut_first, each}
 use Rattle.alert.specs.declared.alert.Alert.{Alert}
 use Rattle.alert.specs.declared.alert.AlertHead.{AlertHead}
 use Rattle.alert.specs.Alert.{alert_layout, frame_layout, fields_of, alert_refusal, check_of, lawful_frame, lawful_head, lawful_length, number_in, sequence_in, reserved_in, head_in, length_in}
-use Rattle.alert.specs.Dividend.{remainder_below}
+use Rattle.pdu.proofs.Dividend.{remainder_below}
 
 layout_fits : FitLayout frame_layout
 layout_fits = record { byte_bits_few = omega arith; trailing_bits_few = omega arith; first_some = omega arith; first_few = omega arith; later_some = omega arith; later_few = omega arith }

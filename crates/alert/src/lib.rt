@@ -3,6 +3,4 @@
 
 pub mod alert;
 pub mod alert_family;
-pub mod division;
-pub mod divisor;
 pub mod setting;

@@ -2,12 +2,12 @@
 ghost use Rattle.std.specs.Prelude.{◌≡◌};
 ghost use Rattle.pdu.specs.Division.{OnlyRemainder};
 ghost use Rattle.family.specs.Texts.{bytes_of};
-ghost use Rattle.alert.specs.Division.{dividend};
+ghost use Rattle.pdu.specs.Dividend.{dividend};
 ghost use Rattle.alert.specs.Alert.{generator_view, generator_taken, check_of};
 
 use crate::alert::Alert;
-use crate::divisor::Divisor;
 use family::text::Text;
+use pdu::divisor::Divisor;
 use pdu::refusal::Refusal;
 
 impl Alert {

@@ -17,11 +17,11 @@ binary bs zero = tt
 binary bs (suc n) = (cond_both (ltb n 68) (bit_at bs n) 0 (λ c. c < 2) (λ e. bit_small bs n) (λ e. omega arith), binary bs n)
 
 -- one step of long division takes the highest coefficient
-pub next : (f : ℕ → ℕ) (r i : ℕ) → 0 < i → divided 12 6155 r (down_from f i) ≡ divided 12 6155 (lowered 12 6155 (r * 2 + f (i - 1))) (down_from f (i - 1))
+pub next : (d g : ℕ) (f : ℕ → ℕ) (r i : ℕ) → 0 < i → divided d g r (down_from f i) ≡ divided d g (lowered d g (r * 2 + f (i - 1))) (down_from f (i - 1))
 unfolding down_from divided
-next f r i h =
+next d g f r i h =
     let e : i ≡ suc (i - 1) = omega arith in
-    ap (λ j. divided 12 6155 r (down_from f j)) e
+    ap (λ j. divided d g r (down_from f j)) e
 
 -- lists of coefficients that agree are equal
 pub agree : (f g : ℕ → ℕ) (n : ℕ) → ((i : ℕ) → i < n → f i ≡ g i) → down_from f n ≡ down_from g n

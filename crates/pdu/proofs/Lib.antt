@@ -1,4 +1,5 @@
 pub mod Division
+pub mod Dividend
 pub mod TenBytes
 pub mod Coefficients
 pub mod Flags

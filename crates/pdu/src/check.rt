@@ -1,12 +1,16 @@
 // The check of a PDU: the remainder of its polynomial.
 ghost use Rattle.std.specs.Prelude.{◌≡◌, ℕ, ◌+◌, ◌*◌, ◌<◌};
 ghost use Rattle.pdu.specs.Check.{coefficient, coefficients, check_of, generator};
-ghost use Rattle.pdu.specs.Division.{lowered, OnlyRemainder};
+ghost use Rattle.pdu.specs.Division.{OnlyRemainder};
 
+use crate::divisor::Divisor;
 use crate::pdu::Pdu;
 
 // X^12 + X^11 + X^3 + X + 1
-const GENERATOR: u16 = 0x180B;
+const DIVISOR: Divisor = Divisor {
+    degree: 12,
+    generator: 0x80B,
+};
 
 impl Pdu {
     // The coefficient of X^i: bit i, counted from the highest bit of byte 0.
@@ -26,22 +30,8 @@ impl Pdu {
         let mut remainder: u16 = 0;
         // Bits 68 to 79 count as zero, and leading zeros leave no remainder.
         for i in (0..68usize).rev() {
-            remainder = bring_down(remainder, self.coefficient(i));
+            remainder = DIVISOR.bring_down(remainder, self.coefficient(i));
         }
         remainder
-    }
-}
-
-// One step of long division: the remainder so far, followed by one coefficient.
-fn bring_down(remainder: u16, coefficient: u8) -> u16
-    requires { (remainder < 4096) × (coefficient < 2) }
-    ensures value { result ≡ lowered 12 6155 (remainder * 2 + coefficient) }
-    ensures small { result < 4096 }
-{
-    let dividend = remainder * 2 + u16::from(coefficient);
-    if dividend < 4096 {
-        dividend
-    } else {
-        dividend ^ GENERATOR
     }
 }

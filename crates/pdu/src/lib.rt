@@ -2,6 +2,7 @@
 #![tactic(auto)]
 
 pub mod check;
+pub mod divisor;
 pub mod fields;
 pub mod pdu;
 pub mod refusal;

@@ -1,5 +1,5 @@
 use Rattle.std.proofs.Common.{refl}
-use Rattle.alert.specs.Division.{text_remainder}
+use Rattle.pdu.specs.Dividend.{text_remainder}
 use Rattle.pdu.specs.Check.{down_from}
 use Rattle.pdu.specs.Division.{divided}
 use Rattle.vectors.proofs.worked.table_is_right.Goals as goal

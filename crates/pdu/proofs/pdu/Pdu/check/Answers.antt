@@ -15,7 +15,7 @@ loop-i-preserved c =
     let i = c.loop-i.i in
     let told = c.bring_down-remainder.ensures in (
       ap (λ r. divided 12 6155 r (down_from (coefficient bs) (i - 1))) (told.value ∙ ap (λ b. lowered 12 6155 (c.loop-i.remainder * 2 + b)) c.coefficient.ensures.value)
-          ∙ sym (next (coefficient bs) c.loop-i.remainder i (omega arith)) ∙ c.loop-i.invariant.0,
+          ∙ sym (next 12 6155 (coefficient bs) c.loop-i.remainder i (omega arith)) ∙ c.loop-i.invariant.0,
       told.small,
     )
 

@@ -2,9 +2,9 @@ use Rattle.std.proofs.Common.{◌≡◌, ℕ, ◌+◌, ◌-◌, ◌^◌, List, g
 use Rattle.std.specs.List.{flat_map}
 use Rattle.std.proofs.lemmas.List.{at_drop_more, at_drop_all}
 use Rattle.pdu.specs.Division.{divided, OnlyRemainder}
-use Rattle.alert.specs.Division.{bits_of, dividend, text_remainder}
-use Rattle.alert.specs.Dividend.{divided_append, divided_none, divided_zero, remainder_only}
-use Rattle.alert.proofs.divisor.Divisor.remainder.Goals as goal
+use Rattle.pdu.specs.Dividend.{bits_of, dividend, text_remainder}
+use Rattle.pdu.proofs.Dividend.{divided_append, divided_none, divided_zero, remainder_only}
+use Rattle.pdu.proofs.divisor.Divisor.remainder.Goals as goal
 
 pub loop-byte-preserved : goal.loop-byte-preserved
 loop-byte-preserved c =

@@ -2,8 +2,8 @@ use Rattle.std.proofs.Common.{◌≡◌, ℕ, ◌+◌, ◌*◌, ◌%◌, ◌^◌
 use lib.Bits.{bit_xor}
 use Rattle.std.proofs.lemmas.Bool.{cond-false, le-ltb}
 use Rattle.pdu.proofs.Division.{top_lowered}
-use Rattle.alert.specs.Dividend.{shifted}
-use Rattle.alert.proofs.divisor.Divisor.bring_down.Goals as goal
+use Rattle.pdu.proofs.Dividend.{shifted}
+use Rattle.pdu.proofs.divisor.Divisor.bring_down.Goals as goal
 
 pub returns-else-longer-top : goal.returns-else-longer-top
 returns-else-longer-top c =

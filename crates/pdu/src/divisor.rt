@@ -1,13 +1,20 @@
-// Long division of a text, its bits taken as the coefficients of a polynomial.
-ghost use Rattle.std.specs.Prelude.{◌≡◌, ℕ, ◌+◌, ◌*◌, ◌^◌, ◌<◌};
+// Long division of polynomials, and of a text whose bits are the coefficients.
+ghost use Rattle.std.specs.Prelude.{◌≡◌, ℕ, ◌+◌, ◌*◌, ◌^◌, ◌<◌, ◌≤◌};
 ghost use Rattle.pdu.specs.Division.{lowered, divided, OnlyRemainder};
-ghost use Rattle.alert.specs.Division.{bits_of, dividend, text_remainder};
+ghost use Rattle.pdu.specs.Dividend.{bits_of, dividend, text_remainder};
 
-use crate::divisor::Divisor;
+// The polynomial X^degree plus a generator of a lower degree.
+#[derive(Clone, Copy)]
+pub struct Divisor {
+    pub degree: u32,
+    pub generator: u16,
+    ghost short: { degree ≤ 15 },
+    ghost low: { generator < 2 ^ degree },
+}
 
 impl Divisor {
-    // The remainder so far, followed by one coefficient.
-    fn bring_down(self, remainder: u16, coefficient: u8) -> u16
+    // One step: the remainder so far, followed by one coefficient.
+    pub(crate) fn bring_down(self, remainder: u16, coefficient: u8) -> u16
         requires { (remainder < 2 ^ self.degree) × (coefficient < 2) }
         ensures value { result ≡ lowered self.degree (2 ^ self.degree + self.generator) (remainder * 2 + coefficient) }
         ensures small { result < 2 ^ self.degree }

@@ -5,7 +5,7 @@ use Rattle.std.specs.List.{flat_map}
 use Rattle.std.proofs.ByRecursion.{All-append}
 use Rattle.pdu.specs.Division.{Coefficients, lowered, divided, OnlyRemainder}
 use Rattle.pdu.proofs.Division.{only}
-use Rattle.alert.specs.Division.{bits_of, dividend, text_remainder}
+use Rattle.pdu.specs.Dividend.{bits_of, dividend, text_remainder}
 
 -- what the code's `1 << d` is
 pub shifted : (d : ℕ) → d ≤ 15 → 1 * 2 ^ d % 65536 ≡ 2 ^ d

@@ -1,7 +1,7 @@
 use Rattle.std.proofs.Common.{◌≡◌, ◌+◌, ◌^◌, ◌<◌, drop}
 use Rattle.pdu.specs.Division.{divided}
-use Rattle.alert.specs.Division.{bits_of}
-use Rattle.alert.proofs.divisor.Divisor.bring_down_byte.Given as goal
+use Rattle.pdu.specs.Dividend.{bits_of}
+use Rattle.pdu.proofs.divisor.Divisor.bring_down_byte.Given as goal
 
 -- What is left to do gives the remainder.
 abbrev pub invariant-loop-k : goal.invariant-loop-k

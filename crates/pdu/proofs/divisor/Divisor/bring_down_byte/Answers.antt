@@ -2,9 +2,9 @@ use Rattle.std.proofs.Common.{◌≡◌, ℕ, ◌+◌, ◌-◌, ◌*◌, ◌/◌
 use Rattle.std.proofs.lemmas.List.{at_drop_more, at_drop_all}
 use Rattle.std.proofs.lemmas.List.FromFn.{get_or-map-range_with_len}
 use Rattle.pdu.specs.Division.{divided, lowered}
-use Rattle.alert.specs.Division.{bits_of}
-use Rattle.alert.specs.Dividend.{divided_more, divided_none}
-use Rattle.alert.proofs.divisor.Divisor.bring_down_byte.Goals as goal
+use Rattle.pdu.specs.Dividend.{bits_of}
+use Rattle.pdu.proofs.Dividend.{divided_more, divided_none}
+use Rattle.pdu.proofs.divisor.Divisor.bring_down_byte.Goals as goal
 
 bit_is : (b k : ℕ) → k < 8 → get_or (bits_of b) k 0 ≡ b / 2 ^ (7 - k) % 2
 bit_is b k h = get_or-map-range_with_len (λ (i : ℕ). b / 2 ^ (7 - i) % 2) 0 8 k k 0 h (zero-add k)

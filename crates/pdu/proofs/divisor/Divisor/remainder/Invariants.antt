@@ -1,8 +1,8 @@
 use Rattle.std.proofs.Common.{◌≡◌, ◌+◌, ◌-◌, ◌^◌, ◌<◌, drop, replicate}
 use Rattle.std.specs.List.{flat_map}
 use Rattle.pdu.specs.Division.{divided}
-use Rattle.alert.specs.Division.{bits_of, text_remainder}
-use Rattle.alert.proofs.divisor.Divisor.remainder.Given as goal
+use Rattle.pdu.specs.Dividend.{bits_of, text_remainder}
+use Rattle.pdu.proofs.divisor.Divisor.remainder.Given as goal
 
 -- What is left to do gives the remainder: first over the bytes, then over the zeros.
 abbrev pub invariant-loop-byte : goal.invariant-loop-byte
