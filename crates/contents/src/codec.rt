@@ -31,7 +31,7 @@ impl Contents {
         ensures value { result ≡ read_from bytes.now }
         ensures written_again { (c : Contents) → result ≡ Ok c → encoded c ≡ Ok (record { bytes = bytes.now }) }
     {
-        let pdu = Pdu::from_slice(bytes)?;
+        let pdu = Pdu::try_from(bytes)?;
         Contents::decode(pdu)
     }
 
@@ -41,7 +41,7 @@ impl Contents {
         ensures after { buffer.new ≡ buffer_after self buffer.old }
         ensures read_again { result ≡ Ok tt → read_from buffer.new ≡ Ok self }
     {
-        Pdu::from_slice(buffer)?;
+        Pdu::try_from(&*buffer)?;
         let pdu = self.encode()?;
         buffer.copy_from_slice(&pdu.bytes);
         Ok(())

@@ -125,21 +125,25 @@ pub enum CallSignExtension {
     DashFm,
 }
 
-impl CallSignExtension {
-    fn parse(bits: u64) -> Result<CallSignExtension, Refusal>
-        ensures { result ≡ extension_of bits }
-    {
+impl TryFrom<u64> for CallSignExtension {
+    type Error = Refusal;
+
+    ghost try_from_gives = { λ bits extension. extension ≡ extension_of bits };
+
+    fn try_from(bits: u64) -> Result<CallSignExtension, Refusal> {
         match bits {
             0 => Ok(CallSignExtension::Nothing),
             1 => Ok(CallSignExtension::DashFm),
             _ => Err(Refusal::OutOfRange),
         }
     }
+}
 
-    fn bits(self) -> u64
-        ensures { result ≡ extension_bits self }
-    {
-        match self {
+impl From<CallSignExtension> for u64 {
+    ghost from_gives = { λ extension bits. bits ≡ extension_bits extension };
+
+    fn from(extension: CallSignExtension) -> u64 {
+        match extension {
             CallSignExtension::Nothing => 0,
             CallSignExtension::DashFm => 1,
         }
@@ -158,7 +162,7 @@ impl ShortName {
     pub(crate) fn parse(payload: u64) -> Result<ShortName, Refusal>
         ensures { result ≡ short_name_of payload }
     {
-        let extension = CallSignExtension::parse(field_of(payload, 2, 0))?;
+        let extension = CallSignExtension::try_from(field_of(payload, 2, 0))?;
         let name = ShortName {
             characters: (
                 Character(field_of(payload, 5, 17) as u8),
@@ -184,7 +188,7 @@ impl ShortName {
         let (Character(a), Character(b), Character(c), Character(d)) = self.characters;
         let left = u64::from(a) * 32 + u64::from(b);
         let four = (left * 32 + u64::from(c)) * 32 + u64::from(d);
-        Ok(four * 4 + self.extension.bits())
+        Ok(four * 4 + u64::from(self.extension))
     }
 
     // Whether no character has the code 31.

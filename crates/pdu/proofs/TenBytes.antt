@@ -51,21 +51,3 @@ bytes_number bs h =
     let e8 : n / 2 ^ 8 % 256 ≡ get_or bs 8 0 = omega arith in
     let e9 : n % 256 ≡ get_or bs 9 0 = omega arith in
     cons e0 (cons e1 (cons e2 (cons e3 (cons e4 (cons e5 (cons e6 (cons e7 (cons e8 (cons e9 refl))))))))) ∙ sym (spelled bs h.0)
-
--- ten elements that are bytes are all elements
-pub each_small : (bs : List ℕ) → length bs ≡ 10 → get_or bs 0 0 < 256 → get_or bs 1 0 < 256 → get_or bs 2 0 < 256 → get_or bs 3 0 < 256 → get_or bs 4 0 < 256
-    → get_or bs 5 0 < 256 → get_or bs 6 0 < 256 → get_or bs 7 0 < 256 → get_or bs 8 0 < 256 → get_or bs 9 0 < 256 → (i : ℕ) → get_or bs i 0 < 256
-each_small bs l a b c d e f g h i j zero = a
-each_small bs l a b c d e f g h i j (suc zero) = b
-each_small bs l a b c d e f g h i j (suc (suc zero)) = c
-each_small bs l a b c d e f g h i j (suc (suc (suc zero))) = d
-each_small bs l a b c d e f g h i j (suc (suc (suc (suc zero)))) = e
-each_small bs l a b c d e f g h i j (suc (suc (suc (suc (suc zero))))) = f
-each_small bs l a b c d e f g h i j (suc (suc (suc (suc (suc (suc zero)))))) = g
-each_small bs l a b c d e f g h i j (suc (suc (suc (suc (suc (suc (suc zero))))))) = h
-each_small bs l a b c d e f g h i j (suc (suc (suc (suc (suc (suc (suc (suc zero)))))))) = i
-each_small bs l a b c d e f g h i j (suc (suc (suc (suc (suc (suc (suc (suc (suc zero))))))))) = j
-each_small bs l a b c d e f g h i j (suc (suc (suc (suc (suc (suc (suc (suc (suc (suc k)))))))))) =
-    let past : length bs ≤ suc (suc (suc (suc (suc (suc (suc (suc (suc (suc k))))))))) = omega arith in
-    let none = get_or_past bs (suc (suc (suc (suc (suc (suc (suc (suc (suc (suc k)))))))))) 0 past in
-    omega (arith, none)

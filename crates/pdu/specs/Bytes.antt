@@ -14,6 +14,10 @@ number_of bs =
     slice_index bs 0 * 2 ^ 72 + slice_index bs 1 * 2 ^ 64 + slice_index bs 2 * 2 ^ 56 + slice_index bs 3 * 2 ^ 48 + slice_index bs 4 * 2 ^ 40
     + slice_index bs 5 * 2 ^ 32 + slice_index bs 6 * 2 ^ 24 + slice_index bs 7 * 2 ^ 16 + slice_index bs 8 * 2 ^ 8 + slice_index bs 9
 
+-- The list has ten bytes, and n is the number that they spell.
+abbrev pub Spells : List ℕ → ℕ → Type 0
+Spells bs n = TenBytes bs × (n ≡ number_of bs)
+
 -- The ten bytes that spell a number below 2^80.
 abbrev pub bytes_of : ℕ → List ℕ
 bytes_of n =

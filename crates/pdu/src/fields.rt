@@ -25,7 +25,7 @@ impl Fields {
         ensures written_again { (f : Fields) → result ≡ Ok f → composed f ≡ Ok pdu }
         ensures area_small { (f : Fields) → result ≡ Ok f → f.area < 2 ^ 58 }
     {
-        let n = pdu.number();
+        let n = u128::from(pdu);
         test(n, pdu.check())?;
         Ok(Fields::of_number(n))
     }

@@ -1,6 +1,6 @@
 // A PDU: ten bytes, copied and passed on whole.
 ghost use Rattle.std.specs.Prelude.{◌≡◌, ℕ, ◌^◌, ◌<◌};
-ghost use Rattle.pdu.specs.Bytes.{TenBytes, taken, number_of, bytes_of};
+ghost use Rattle.pdu.specs.Bytes.{Spells, taken, bytes_of};
 
 use crate::refusal::Refusal;
 
@@ -9,30 +9,30 @@ pub struct Pdu {
     pub bytes: [u8; 10],
 }
 
-impl Pdu {
-    // The PDU that a slice holds, if it has ten bytes.
-    pub fn from_slice(slice: &[u8]) -> Result<Pdu, Refusal>
-        ensures { result ≡ taken slice.now }
-    {
-        if slice.len() != 10 {
-            return Err(Refusal::NotTenBytes);
-        }
-        let mut bytes = [0; 10];
-        bytes.copy_from_slice(slice);
+// The PDU that a slice holds, if it has ten bytes.
+impl TryFrom<&[u8]> for Pdu {
+    type Error = Refusal;
+
+    ghost try_from_gives = { λ slice pdu. pdu ≡ taken slice.now };
+
+    fn try_from(slice: &[u8]) -> Result<Pdu, Refusal> {
+        let bytes = <[u8; 10]>::try_from(slice).map_err(|_| Refusal::NotTenBytes)?;
         Ok(Pdu { bytes })
     }
+}
 
-    // The ten bytes as one number, bit 0 highest.
-    pub(crate) fn number(self) -> u128
-        ensures value { result ≡ number_of self.bytes }
-        ensures small { result < 2 ^ 80 }
-        ensures ten { TenBytes self.bytes }
-    {
-        let [a, b, c, d, e, f, g, h, i, j] = self.bytes;
+// The ten bytes as one number, bit 0 highest.
+impl From<Pdu> for u128 {
+    ghost from_gives = { λ pdu n. Spells pdu.bytes n };
+
+    fn from(pdu: Pdu) -> u128 {
+        let [a, b, c, d, e, f, g, h, i, j] = pdu.bytes;
         u128::from_be_bytes([0, 0, 0, 0, 0, 0, a, b, c, d, e, f, g, h, i, j])
     }
+}
 
-    // The PDU that spells a number of 80 bits.
+impl Pdu {
+    // The PDU that spells a number of 80 bits. Not From: a longer number has no PDU.
     pub(crate) fn from_number(n: u128) -> Pdu
         requires { n < 2 ^ 80 }
         ensures { result ≡ record { bytes = bytes_of n } }

@@ -9,9 +9,9 @@ use Rattle.pdu.proofs.fields.Fields.parse.Goals as goal
 pub returns : goal.returns
 returns c =
     let p = c.args.pdu in
-    let n : c.number-n.result ≡ number_of p.bytes = c.number-n.ensures.value in
+    let n : c.from-n.result ≡ number_of p.bytes = c.from-n.ensures.1 in
     let right : tested (number_of p.bytes) (check_of p.bytes) ≡ Ok tt =
     ap₂ tested (sym n) (sym c.check.ensures.value) ∙ sym c.test.ensures ∙ c.in_ok-test.was in
     let value = ap Ok (c.of_number.ensures ∙ ap fields_of n) ∙ sym (parsed_right p right) in
-    let again : (f : Fields) → Ok c.of_number.result ≡ Ok f → composed f ≡ Ok p = λ f e. written_again p c.number-n.ensures.ten f (sym value ∙ e) in
+    let again : (f : Fields) → Ok c.of_number.result ≡ Ok f → composed f ≡ Ok p = λ f e. written_again p c.from-n.ensures.0 f (sym value ∙ e) in
     record { value = value; written_again = again; area_small = λ f e. area_small f (again f e) }
