@@ -92,7 +92,7 @@ pub fn write<N: Family, M: Family, A: Family>(
     ensures after { buffer.new ≡ buffer_after_with (lawful_at (N.Family.meaning.lawful name.now) (M.Family.meaning.lawful message.now) (A.Family.meaning.lawful alert.now)) contents buffer.old }
     ensures read_again { result ≡ Ok tt → read_with (lawful_at (N.Family.meaning.lawful name.now) (M.Family.meaning.lawful message.now) (A.Family.meaning.lawful alert.now)) buffer.new ≡ Ok contents }
 {
-    Pdu::from_slice(buffer)?;
+    Pdu::try_from(&*buffer)?;
     let pdu = encode(name, message, alert, contents)?;
     buffer.copy_from_slice(&pdu.bytes);
     Ok(())
