@@ -8,7 +8,7 @@ use Rattle.std.proofs.lemmas.List.FromFn.{get_or-map-range_with_len, length-map-
 use Rattle.pdu.specs.declared.refusal.Refusal.{Refusal}
 use Rattle.family.specs.Meaning.{RecordOf, Fit, Laws}
 use Rattle.layout.specs.Frames.{with_bytes, frame_count, leading_of, frame_of, place_of, bytes_in, text_in, FitLayout, Cuttable}
-use Rattle.layout.specs.Family.{FamilyLayout, record_cut, record_in, meaning_of, accepted, if_cut}
+use Rattle.family.specs.Family.{FamilyLayout, record_cut, record_in, meaning_of, accepted, if_cut}
 use Rattle.layout.proofs.Reading.{Holds, text_read, text_small}
 
 -- frame i of a record, and how many there are

@@ -4,10 +4,8 @@ ghost use Rattle.family.specs.Meaning.{Meaning, Laws, count_due, frame_due, numb
 ghost use Rattle.family.specs.Texts.{record_view, join_view};
 
 use crate::text::Record;
+pub use layout::layout::Payload;
 use pdu::refusal::Refusal;
-
-// The 58 bits of a frame.
-pub type Payload = u64;
 
 // Every call answers from the meaning alone and alters nothing.
 pub trait Family {

@@ -1,6 +1,8 @@
 // Texts made, lent and compared, and records compared.
 ghost use Rattle.std.specs.Prelude.{◌≡◌};
 ghost use Rattle.std.specs.Str.{bytes_eq};
+ghost use Rattle.std.specs.Cmp.{on_equiv, on_per, partial_equiv_from_equiv};
+ghost use Rattle.std.specs.Cmp.Lexicographic.{nat_list_eq_equiv};
 ghost use Rattle.family.specs.Meaning.{equal_records};
 ghost use Rattle.family.specs.Texts.{bytes_of, text_view, text_taken, record_view};
 
@@ -16,9 +18,7 @@ impl Text {
             return Err(Refusal::TextLength);
         }
         let mut copied = [0; 381];
-        for j in 0..bytes.len() {
-            copied[j] = bytes[j];
-        }
+        copied[0..bytes.len()].copy_from_slice(bytes);
         Ok(Text {
             bytes: copied,
             len: bytes.len(),
@@ -30,26 +30,28 @@ impl Text {
     {
         &self.bytes[0..self.len]
     }
+}
 
-    // Whether both texts are the same bytes.
-    pub fn same(&self, other: &Text) -> bool
-        ensures { result ≡ bytes_eq (bytes_of self.now) (bytes_of other.now) }
-    {
-        same_bytes(self.as_slice(), other.as_slice())
+// Two texts are equal when they are the same bytes.
+impl PartialEq for Text {
+    ghost eq = { λ a b. bytes_eq (bytes_of a) (bytes_of b) };
+
+    ghost laws = { on_per bytes_of (partial_equiv_from_equiv nat_list_eq_equiv) };
+
+    fn eq(&self, other: &Text) -> bool {
+        self.as_slice() == other.as_slice()
     }
+}
+
+impl Eq for Text {
+    ghost laws = { on_equiv bytes_of nat_list_eq_equiv };
 }
 
 impl<H> Record<H> {
-    // Whether both records are equal.
+    // Whether both records are equal. Not ==: two records with different heads count as equal.
     pub fn equals(&self, other: &Record<H>) -> bool
         ensures { result ≡ equal_records (record_view self.now) (record_view other.now) }
     {
-        self.text.same(&other.text)
+        self.text == other.text
     }
-}
-
-fn same_bytes(a: &[u8], b: &[u8]) -> bool
-    ensures { result ≡ bytes_eq a.now b.now }
-{
-    a == b
 }

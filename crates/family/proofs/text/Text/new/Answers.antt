@@ -1,17 +1,12 @@
-use Rattle.std.proofs.Common.{leb, length, get_or, Ok, Err, sym, refl, ap, ◌∙◌, arith}
-use Rattle.std.proofs.lemmas.Bool.{cond-true, le-leb}
-use Rattle.pdu.specs.declared.refusal.Refusal.TheVariants.{TextLength}
-use Rattle.family.proofs.Fills.{filled_none, filled_more, filled_list}
+use Rattle.std.proofs.Common.{◌-◌, length, sym, subst, arith}
+use Rattle.family.specs.Meaning.{Bytes}
+use Rattle.family.proofs.Padded.{padded_long, padded_small}
 use Rattle.family.proofs.text.Text.new.Goals as goal
 
-pub loop-j-init : goal.loop-j-init
-loop-j-init c = filled_none (λ k. get_or c.args.bytes.now k 0)
+pub invariant_of-result-clause-whole : goal.invariant_of-result-clause-whole
+invariant_of-result-clause-whole c = padded_long (length c.args.bytes.now - 0) c.copy_from_slice.new.self (omega arith) (omega (arith, c.copy_from_slice.ensures.len, c.copy_from_slice.auto.self))
 
-pub loop-j-preserved : goal.loop-j-preserved
-loop-j-preserved c = filled_more (λ k. get_or c.args.bytes.now k 0) c.loop-j.copied c.loop-j.j (get_or c.args.bytes.now c.loop-j.j 0) c.loop-j.invariant (omega arith) (omega (arith, c.type_inv.bytes c.loop-j.j)) refl
-
-pub returns : goal.returns
-returns c =
-    let ys = c.args.bytes.now in
-    ap Ok (filled_list ys c.loop-j.copied (length ys) c.loop-j.j c.loop-j.invariant (omega arith) (omega arith) refl)
-    ∙ sym (cond-true (leb (length ys) 381) (Ok ys) (Err TextLength) (le-leb (length ys) 381 (omega arith)))
+pub invariant_of-result-clause-small : goal.invariant_of-result-clause-small
+invariant_of-result-clause-small c =
+    let s : Bytes c.args.bytes.now = λ i. omega (arith, c.type_inv.bytes i) in
+    padded_small (length c.args.bytes.now - 0) c.copy_from_slice.new.self (subst Bytes (sym c.copy_from_slice.ensures.after) s)

@@ -1,0 +1,120 @@
+// The one family of every layout.
+ghost use Rattle.std.specs.Prelude.{◌≡◌, ◌<◌, ◌≤◌, None, if◌then◌else◌, Ok, Err};
+ghost use Rattle.layout.specs.Frames.{FitLayout, text_in};
+ghost use Rattle.pdu.specs.declared.refusal.Refusal.TheVariants.{UnlawfulFrame};
+ghost use Rattle.family.specs.Texts.{bytes_of, record_view};
+ghost use Rattle.family.specs.Family.{meaning_of};
+ghost use Rattle.family.specs.Sound.{keeps};
+
+use crate::family::Family;
+use crate::family_layout::FamilyLayout;
+use crate::text::{Record, Text};
+use layout::cut::Cut;
+use layout::frames::frame_or_zero;
+use layout::layout::{FrameLayout, Payload};
+use pdu::refusal::Refusal;
+
+// The text of the first bytes in the frames.
+fn text_in(layout: FrameLayout, frames: &[Payload], length: usize) -> Text
+    requires fits { FitLayout layout }
+    requires short { length ≤ 381 }
+    ensures { bytes_of result ≡ text_in layout frames.now length }
+{
+    let mut bytes = [0; 381];
+    layout.read_text(frames, &mut bytes[0..length]);
+    Text { bytes, len: length }
+}
+
+// A lawful record, ready to be cut under a sequence number.
+fn cut<'a, L: FamilyLayout>(family: &L, record: &'a Record<L::Head>, sequence: u8) -> Cut<'a>
+    requires lawful { L.layout.refusal family.now (record_view «record».now) ≡ None }
+    requires known { sequence < L.layout.modulus }
+    ensures layout { result.layout ≡ L.layout.frame_layout }
+    ensures fields { result.fields ≡ L.layout.fields family.now (record_view «record».now) sequence }
+    ensures text { result.text.now ≡ bytes_of «record».now.text }
+{
+    Cut {
+        layout: L::FRAME_LAYOUT,
+        fields: family.fields(record, sequence),
+        text: record.text.as_slice(),
+    }
+}
+
+// Refuses an unlawful frame.
+fn lawful<L: FamilyLayout>(family: &L, frame: Payload) -> Result<(), Refusal>
+    ensures { result ≡ (if L.layout.lawful family.now frame then Ok (tt {0}) else Err UnlawfulFrame) }
+{
+    if family.accepts(frame) {
+        Ok(())
+    } else {
+        Err(Refusal::UnlawfulFrame)
+    }
+}
+
+impl<L: FamilyLayout> Family for L {
+    type Head = L::Head;
+
+    const MODULUS: u8 = L::MODULUS;
+
+    ghost meaning = { meaning_of L.layout };
+
+    ghost keeps = { keeps L.layout L.sound };
+
+    fn sequence_numbers(&self) -> u8 {
+        L::MODULUS
+    }
+
+    fn refusal(&self, record: &Record<L::Head>) -> Option<Refusal> {
+        self.why_refused(record)
+    }
+
+    fn frame_count(&self, record: &Record<L::Head>) -> Result<usize, Refusal> {
+        match self.why_refused(record) {
+            Some(refusal) => Err(refusal),
+            None => Ok(L::FRAME_LAYOUT.frame_count(record.text.len)),
+        }
+    }
+
+    fn frame(&self, record: &Record<L::Head>, sequence: u8, i: usize) -> Result<Payload, Refusal> {
+        let count = self.frame_count(record)?;
+        if sequence >= L::MODULUS || i >= count {
+            return Err(Refusal::OutOfRange);
+        }
+        Ok(cut(self, record, sequence).frame(i))
+    }
+
+    fn is_lawful(&self, frame: Payload) -> bool {
+        self.accepts(frame)
+    }
+
+    fn number(&self, frame: Payload) -> Result<usize, Refusal> {
+        lawful(self, frame)?;
+        Ok(self.number_in(frame))
+    }
+
+    fn sequence(&self, frame: Payload) -> Result<u8, Refusal> {
+        lawful(self, frame)?;
+        Ok(self.sequence_in(frame))
+    }
+
+    fn last_number(&self, frame: Payload) -> Result<usize, Refusal> {
+        lawful(self, frame)?;
+        if self.number_in(frame) != 0 {
+            return Err(Refusal::UnlawfulFrame);
+        }
+        Ok(self.last_in(frame))
+    }
+
+    fn join(&self, frames: &[Payload]) -> Option<Record<L::Head>> {
+        let first = frame_or_zero(frames, 0);
+        let record = Record {
+            head: self.head_in(first),
+            text: text_in(L::FRAME_LAYOUT, frames, self.length_in(frames)),
+        };
+        if self.why_refused(&record).is_some() {
+            return None;
+        }
+        let cut = cut(self, &record, self.sequence_in(first));
+        cut.is(frames).then_some(record)
+    }
+}
