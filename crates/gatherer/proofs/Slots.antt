@@ -1,13 +1,14 @@
 -- The slots of a table, against a series.
-use Rattle.std.proofs.Common.{◌≡◌, ℕ, zero, suc, ◌<◌, ◌≤◌, true, false, List, [], ◌∷◌, ◌++◌, length, get_or, take, replicate, Some, None, Option, sym, refl, ap, ◌∙◌, subst, inl, inr, add-one, arith}
+use Rattle.std.proofs.Common.{◌≡◌, ℕ, zero, suc, ◌+◌, ◌<◌, ◌≤◌, List, [], ◌∷◌, ◌++◌, length, get_or, take, set, replicate, Some, None, Option, sym, refl, ap, ◌∙◌, inl, inr, add-one, arith}
 use Rattle.std.proofs.lemmas.Bool.{cases_eq}
-use Rattle.std.proofs.lemmas.List.{take_more}
+use Rattle.std.proofs.lemmas.List.{length-set}
+use Rattle.std.proofs.Math.Seq.{take-suc-set}
 use Rattle.family.specs.Meaning.{Meaning}
 use Rattle.gatherer.specs.declared.gatherer.Table.{Table}
-use Rattle.gatherer.specs.Series.{latest_frame, frames_below, appended}
-use Rattle.gatherer.specs.Agrees.{Slots}
+use Rattle.gatherer.specs.Series.{frames_told, frames_below, frames_up_to, full_series, appended}
+use Rattle.gatherer.specs.Agrees.{Slots, slot, held_below}
 
-pub none_held : (n i : ℕ) → get_or (replicate n false) i false ≡ false
+pub none_held : (n i : ℕ) → get_or (replicate {A = Option ℕ} n None) i None ≡ None
 none_held zero i = refl
 none_held (suc n) zero = refl
 none_held (suc n) (suc i) = none_held n i
@@ -16,28 +17,34 @@ appended_none : (o : Option (List ℕ)) → appended o None ≡ None
 appended_none None = refl
 appended_none (Some xs) = refl
 
-module _ {S T : Type 0} (m : Meaning S T) (s : S) (xs : List ℕ) (t : Table) (slots : Slots m s xs t) where
-  pub at_held : (i : ℕ) → i < 64 → get_or t.held i false ≡ true → latest_frame m s i xs ≡ Some (get_or t.frames i 0)
-  at_held i h e = sym (slots i h) ∙ rw e refl
+-- the first i frames are those in the slots below i
+pub record Copied (t : Table) (frames : List ℕ) (i : ℕ) : Type 0 where
+  pub whole : length frames ≡ 64
+  pub held : held_below t i ≡ Some (take i frames)
 
-  pub at_empty : (i : ℕ) → i < 64 → get_or t.held i false ≡ false → latest_frame m s i xs ≡ None
-  at_empty i h e = sym (slots i h) ∙ rw e refl
+pub copied_more : (t : Table) (frames : List ℕ) (i x : ℕ) → Copied t frames i → i < 64 → slot t i ≡ Some x → Copied t (set frames i x) (i + 1)
+copied_more t frames i x k l e =
+    let before = k.held in
+    let more : take (suc i) (set frames i x) ≡ take i frames ++ (x ∷ []) = take-suc-set frames i x (omega (arith, k.whole)) in
+    record { whole = length-set frames i x ∙ k.whole; held = rw (add-one i, before, e) (ap Some (sym more)) }
 
-  -- all of the slots below n are held
-  pub below_held : (n : ℕ) → n ≤ 64 → ((k : ℕ) → k < n → get_or t.held k false ≡ true) → frames_below m s xs n ≡ Some (take n t.frames)
-  below_held zero h all = refl
-  below_held (suc n) h all =
-      let before : frames_below m s xs n ≡ Some (take n t.frames) = below_held n (omega arith) (λ k l. all k (omega arith)) in
-      let here : latest_frame m s n xs ≡ Some (get_or t.frames n 0) = at_held n (omega arith) (all n (omega arith)) in
-      let w : length t.frames ≡ 64 = t.whole in
-      let more : take (suc n) t.frames ≡ take n t.frames ++ (get_or t.frames n 0 ∷ []) = rw (← add-one n) (take_more t.frames n 0 (omega arith)) in
-      rw (before, here) (ap Some (sym more))
+-- one of the slots below n is empty
+pub held_none : (t : Table) (n k : ℕ) → k < n → slot t k ≡ None → held_below t n ≡ None
+held_none t zero k l e = absurd (omega arith)
+held_none t (suc n) k l e =
+    elim (cases_eq k n) [
+      | inl same ↦ rw (← same, e) (appended_none (held_below t k))
+      | inr other ↦ (let before : held_below t n ≡ None = held_none t n k (omega arith) e in rw before refl)
+    ]
 
-  -- one of the slots below n is empty
-  pub below_empty : (n k : ℕ) → n ≤ 64 → k < n → get_or t.held k false ≡ false → frames_below m s xs n ≡ None
-  below_empty zero k h l e = absurd (omega arith)
-  below_empty (suc n) k h l e =
-      elim (cases_eq k n) [
-        | inl same ↦ (let here : latest_frame m s n xs ≡ None = at_empty n (omega arith) (subst (λ (i : ℕ). get_or t.held i false ≡ false) same e) in rw here (appended_none (frames_below m s xs n)))
-        | inr other ↦ (let before : frames_below m s xs n ≡ None = below_empty n k (omega arith) (omega arith) e in rw before refl)
-      ]
+-- the frames held are the latest of the series
+held_frames : {S T : Type 0} (m : Meaning S T) (s : S) (xs : List ℕ) (t : Table) → Slots m s xs t → (n : ℕ) → n ≤ 64 → held_below t n ≡ frames_below m s xs n
+held_frames m s xs t slots zero h = refl
+held_frames m s xs t slots (suc n) h =
+    let before = held_frames m s xs t slots n (omega arith) in
+    let here = slots n (omega arith) in
+    rw (before, here) refl
+
+-- if n frames are told, those held below n are the full series
+pub held_full : {S T : Type 0} (m : Meaning S T) (s : S) (xs : List ℕ) (t : Table) → Slots m s xs t → (n : ℕ) → n ≤ 64 → frames_told m s xs ≡ Some n → full_series m s xs ≡ held_below t n
+held_full m s xs t slots n few told = ap (frames_up_to m s xs) told ∙ sym (held_frames m s xs t slots n few)

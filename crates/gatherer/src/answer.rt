@@ -14,11 +14,20 @@ pub enum Answer {
     DoesNotJoin = 4,
 }
 
+// The number under which the answer is known to programs.
+impl From<Answer> for u8 {
+    ghost from_gives = { λ answer number. number ≡ number_of answer };
+
+    fn from(answer: Answer) -> u8 {
+        answer as u8
+    }
+}
+
 impl Answer {
     // The number under which the answer is known to programs.
     pub fn number(self) -> u8
         ensures { result ≡ number_of self }
     {
-        self as u8
+        u8::from(self)
     }
 }

@@ -1,14 +1,13 @@
 // The calls that change a gatherer.
-ghost use Rattle.std.specs.Prelude.{◌≡◌, ℕ, ◌+◌, ◌≤◌, min, true, false, List, [], ◌∷◌, if◌then◌else◌, Some, ◌≢◌, nat_eq, slice_index_or};
+ghost use Rattle.std.specs.Prelude.{◌≡◌, ℕ, ◌+◌, ◌≤◌, min, true, false, [], ◌∷◌, if◌then◌else◌, Some, None, ◌≢◌, nat_eq};
 ghost use Rattle.family.specs.Texts.{record_view, join_view};
 ghost use Rattle.gatherer.specs.Answers.{number_of};
-ghost use Rattle.gatherer.specs.Series.{Event, accepted, forgotten, series, frames_told};
-ghost use Rattle.gatherer.specs.Due.{joined_outcome, attempted, is_equal_to, shown_after, joined_answer, answer_to, refusal_due, refusal_in};
-ghost use Rattle.gatherer.specs.Agrees.{Holds, Agrees, Taken, attempt_view};
-ghost use Rattle.gatherer.specs.declared.gatherer.State.TheVariants.{Gathering};
+ghost use Rattle.gatherer.specs.Series.{accepted, forgotten, series, frames_told};
+ghost use Rattle.gatherer.specs.Due.{attempted, is_equal_to, joined_answer, refusal_due, refusal_in};
+ghost use Rattle.gatherer.specs.Agrees.{Agrees, InEveryHistory, InEverySeries, Holds, Taken, slot, attempt_view, attempt_due};
 
 use crate::answer::Answer;
-use crate::gatherer::{Attempt, Gatherer, State, Table};
+use crate::gatherer::{Gatherer, Table};
 use family::family::{Family, Payload};
 use family::text::Record;
 use pdu::refusal::Refusal;
@@ -20,7 +19,7 @@ impl<F: Family> Gatherer<F> {
     {
         Gatherer {
             family,
-            state: State::Empty,
+            sequence: None,
             table: Table::empty(),
             shown: None,
             fresh: 0,
@@ -32,19 +31,21 @@ impl<F: Family> Gatherer<F> {
     pub fn offer(&mut self, frame: Payload) -> Result<Answer, Refusal>
         ensures refusal { refusal_in result ≡ refusal_due F.Family.meaning self.old.family frame }
         ensures unchanged { F.Family.meaning.lawful self.old.family frame ≡ false → self.new ≡ self.old }
-        ensures taken { (s : F) (h : List Event) → Agrees F.Family.meaning s h self.old → F.Family.meaning.lawful s frame ≡ true → Taken F.Family.meaning s h frame result self.new }
+        ensures taken { InEveryHistory F.Family.meaning self.old (λ s h. F.Family.meaning.lawful s frame ≡ true → Taken F.Family.meaning s h frame result self.new) }
     {
         self.take(frame)?;
-        let attempt = self.attempt();
-        Ok(self.answer(attempt))
+        match self.attempt() {
+            Ok(record) => Ok(self.show(record)),
+            Err(answer) => Ok(answer),
+        }
     }
 
     // Drops the frames, the record shown and the count, and keeps the family.
     pub fn forget(&mut self)
         ensures emptied { Agrees F.Family.meaning self.old.family [] self.new }
-        ensures agrees { (s : F) (h : List Event) → Agrees F.Family.meaning s h self.old → Agrees F.Family.meaning s (forgotten ∷ h) self.new }
+        ensures agrees { InEveryHistory F.Family.meaning self.old (λ s h. Agrees F.Family.meaning s (forgotten ∷ h) self.new) }
     {
-        self.state = State::Empty;
+        self.sequence = None;
         self.table = Table::empty();
         self.shown = None;
         self.fresh = 0;
@@ -54,7 +55,7 @@ impl<F: Family> Gatherer<F> {
     fn take(&mut self, frame: Payload) -> Result<(), Refusal>
         ensures refusal { refusal_in result ≡ refusal_due F.Family.meaning self.old.family frame }
         ensures unchanged { F.Family.meaning.lawful self.old.family frame ≡ false → self.new ≡ self.old }
-        ensures holds { (s : F) (h : List Event) → Holds F.Family.meaning s h self.old → F.Family.meaning.lawful s frame ≡ true → Holds F.Family.meaning s (accepted frame ∷ h) self.new }
+        ensures holds { InEverySeries F.Family.meaning self.old (λ s h. F.Family.meaning.lawful s frame ≡ true → Holds F.Family.meaning s (accepted frame ∷ h) self.new) }
         ensures shown { self.new.shown ≡ self.old.shown }
         ensures fresh { self.new.fresh ≡ self.old.fresh }
     {
@@ -67,74 +68,51 @@ impl<F: Family> Gatherer<F> {
 
     // Drops the frames of any other sequence number.
     fn follow(&mut self, sequence: u8)
-        ensures state { self.new.state ≡ Gathering sequence }
-        ensures kept { self.old.state ≡ Gathering sequence → self.new.table ≡ self.old.table }
-        ensures dropped { (self.old.state ≢ Gathering sequence) → (i : ℕ) → slice_index_or self.new.table.held i false ≡ false }
+        ensures sequence { self.new.sequence ≡ Some sequence }
+        ensures kept { self.old.sequence ≡ Some sequence → self.new.table ≡ self.old.table }
+        ensures dropped { (self.old.sequence ≢ Some sequence) → (i : ℕ) → slot self.new.table i ≡ None }
         ensures family { self.new.family ≡ self.old.family }
         ensures shown { self.new.shown ≡ self.old.shown }
         ensures fresh { self.new.fresh ≡ self.old.fresh }
     {
-        match (self.state, sequence) {
-            (State::Gathering(current), offered) if current == offered => {}
+        match (self.sequence, sequence) {
+            (Some(held), offered) if held == offered => {}
             _ => {
                 self.table = Table::empty();
-                self.state = State::Gathering(sequence);
+                self.sequence = Some(sequence);
             }
         }
     }
 
     // How many frames the series should have, which frame 0 tells.
     pub(super) fn frames_told(&self) -> Option<usize>
-        ensures due { (s : F) (h : List Event) → Holds F.Family.meaning s h self.now → result ≡ frames_told F.Family.meaning s (series F.Family.meaning s h) }
+        ensures due { InEverySeries F.Family.meaning self.now (λ s h. result ≡ frames_told F.Family.meaning s (series F.Family.meaning s h)) }
         ensures few { (n : ℕ) → result ≡ Some n → n ≤ 64 }
     {
-        if !self.table.held[0] {
-            return None;
-        }
-        match self.family.last_number(self.table.frames[0]) {
-            Ok(last) => Some(last + 1),
-            // The frames held are lawful, so this does not happen.
-            Err(_) => None,
-        }
+        let first = self.table.slots[0]?;
+        // The frames held are lawful, so it is not refused.
+        let last = self.family.last_number(first).ok()?;
+        Some(last + 1)
     }
 
-    // Joins the frames held, if the series is full.
-    fn attempt(&self) -> Attempt<F::Head>
-        ensures { (s : F) (h : List Event) → Holds F.Family.meaning s h self.now → attempt_view result ≡ attempted F.Family.meaning s h }
+    // Joins the frames held, if the series is full; else gives the answer that is due without a record.
+    fn attempt(&self) -> Result<Record<F::Head>, Answer>
+        ensures { InEverySeries F.Family.meaning self.now (λ s h. attempt_view result ≡ attempt_due (attempted F.Family.meaning s h)) }
     {
-        let Some(count) = self.frames_told() else {
-            return Attempt::Incomplete;
-        };
-        if !self.table.holds_all(count) {
-            return Attempt::Incomplete;
-        }
-        Attempt::at_full(self.family.join(&self.table.frames[0..count]))
-    }
-
-    // Shows the record that the frames joined to, if any.
-    fn answer(&mut self, attempt: Attempt<F::Head>) -> Answer
-        ensures answer { result ≡ answer_to (join_view self.old.shown) (attempt_view attempt) }
-        ensures shown { join_view self.new.shown ≡ shown_after (join_view self.old.shown) (attempt_view attempt) }
-        ensures fresh { self.new.fresh ≡ (if nat_eq (number_of result) 2 then min (self.old.fresh + 1) 4294967295 else self.old.fresh) }
-        ensures family { self.new.family ≡ self.old.family }
-        ensures state { self.new.state ≡ self.old.state }
-        ensures table { self.new.table ≡ self.old.table }
-    {
-        match attempt {
-            Attempt::Incomplete => Answer::Incomplete,
-            Attempt::DoesNotJoin => Answer::DoesNotJoin,
-            Attempt::Joined(record) => self.show(record),
-        }
+        let count = self.frames_told().ok_or(Answer::Incomplete)?;
+        let frames = self.table.frames_below(count).ok_or(Answer::Incomplete)?;
+        self.family
+            .join(&frames[..count])
+            .ok_or(Answer::DoesNotJoin)
     }
 
     // Whether the record shown equals this one.
     fn shows(&self, record: &Record<F::Head>) -> bool
         ensures { result ≡ is_equal_to (join_view self.now.shown) (record_view «record».now) }
     {
-        match &self.shown {
-            Some(shown) => shown.equals(record),
-            None => false,
-        }
+        self.shown
+            .as_ref()
+            .is_some_and(|shown| shown.equals(record))
     }
 
     // Shows a record, and counts it where it is new.
@@ -143,7 +121,7 @@ impl<F: Family> Gatherer<F> {
         ensures shown { self.new.shown ≡ Some «record» }
         ensures fresh { self.new.fresh ≡ (if nat_eq (number_of result) 2 then min (self.old.fresh + 1) 4294967295 else self.old.fresh) }
         ensures family { self.new.family ≡ self.old.family }
-        ensures state { self.new.state ≡ self.old.state }
+        ensures sequence { self.new.sequence ≡ self.old.sequence }
         ensures table { self.new.table ≡ self.old.table }
     {
         let shown_before = self.shows(&record);
@@ -153,17 +131,5 @@ impl<F: Family> Gatherer<F> {
         }
         self.fresh = self.fresh.saturating_add(1);
         Answer::NewlyShown
-    }
-}
-
-impl<H: Copy> Attempt<H> {
-    // What a full series comes to.
-    fn at_full(joined: Option<Record<H>>) -> Attempt<H>
-        ensures { attempt_view result ≡ joined_outcome (join_view joined) }
-    {
-        match joined {
-            Some(record) => Attempt::Joined(record),
-            None => Attempt::DoesNotJoin,
-        }
     }
 }

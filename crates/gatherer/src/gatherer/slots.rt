@@ -1,52 +1,45 @@
 // The slots of the frames held.
-ghost use Rattle.std.specs.Prelude.{◌≡◌, ℕ, ◌<◌, ◌≤◌, true, false, slice_index_or, slice_set};
-ghost use Rattle.gatherer.specs.Agrees.{empty_sum};
+ghost use Rattle.std.specs.Prelude.{◌≡◌, ℕ, ◌<◌, ◌≤◌, Some, None, take, option_map, slice_set};
+ghost use Rattle.gatherer.specs.Agrees.{slot, held_below, empty_sum};
 
 use crate::gatherer::Table;
 use family::family::Payload;
 
 impl Table {
     pub(super) fn empty() -> Table
-        ensures { (i : ℕ) → slice_index_or result.held i false ≡ false }
+        ensures { (i : ℕ) → slot result i ≡ None }
     {
-        Table {
-            frames: [0; 64],
-            held: [false; 64],
-        }
+        Table { slots: [None; 64] }
     }
 
     // Holds a frame in the slot of its number, in place of any that was there.
     pub(super) fn put(&mut self, number: usize, frame: Payload)
         requires { number < 64 }
-        ensures frames { self.new.frames ≡ slice_set self.old.frames number frame }
-        ensures held { self.new.held ≡ slice_set self.old.held number true }
+        ensures { self.new.slots ≡ slice_set self.old.slots number (Some frame) }
     {
-        self.frames[number] = frame;
-        self.held[number] = true;
+        self.slots[number] = Some(frame);
     }
 
-    // Whether the slots below the count are all held.
-    pub(super) fn holds_all(&self, count: usize) -> bool
+    // The frames in the slots below the count, if all of those are held, and then zeros.
+    pub(super) fn frames_below(&self, count: usize) -> Option<[Payload; 64]>
         requires { count ≤ 64 }
-        ensures all { result ≡ true → (k : ℕ) → k < count → slice_index_or self.now.held k false ≡ true }
-        ensures some_empty { result ≡ false → (k : ℕ) × (k < count) × (slice_index_or self.now.held k false ≡ false) }
+        ensures { option_map (take count) result ≡ held_below self.now count }
     {
-        for i in 0..count {
-            if !self.held[i] {
-                return false;
-            }
+        let mut frames = [0; 64];
+        for (i, slot) in self.slots[..count].iter().enumerate() {
+            frames[i] = (*slot)?;
         }
-        true
+        Some(frames)
     }
 
     // The sum of 2^i over the empty slots i below the count.
     pub(super) fn empty_sum(&self, count: usize) -> u64
         requires { count ≤ 64 }
-        ensures { result ≡ empty_sum self.now.held count }
+        ensures { result ≡ empty_sum self.now count }
     {
         let mut sum: u64 = 0;
-        for i in 0..count {
-            if !self.held[i] {
+        for (i, slot) in self.slots[..count].iter().enumerate() {
+            if slot.is_none() {
                 sum += 1 << i;
             }
         }

@@ -1,35 +1,37 @@
-use Rattle.std.proofs.Common.{◌≡◌, ℕ, ◌-◌, ◌<◌, ◌≤◌, true, false, List, get_or, take, Some, None, Option, sym, refl, ap, ◌∙◌, arith}
-use Rattle.family.specs.Meaning.{Meaning, RecordOf}
+use Rattle.std.proofs.Common.{◌≡◌, Err, Some, None, ap, ◌∙◌, sym, rules, take, option_map}
+use Rattle.gatherer.specs.declared.answer.Answer.TheVariants.{Incomplete, DoesNotJoin}
+use Rattle.std.specs.Option.{ok_or}
 use Rattle.family.specs.Texts.{join_view}
-use Rattle.gatherer.specs.declared.gatherer.Table.{Table}
-use Rattle.gatherer.specs.Agrees.{Slots}
-use Rattle.gatherer.specs.Series.{series, frames_told, frames_up_to, full_series}
+use Rattle.gatherer.specs.Series.{series, full_series}
 use Rattle.gatherer.specs.Due.{outcome, joined_outcome}
-use Rattle.gatherer.proofs.Slots.{below_held, below_empty}
+use Rattle.gatherer.specs.Agrees.{held_below, attempt_view, attempt_due}
+use Rattle.gatherer.proofs.Slots.{held_full}
+use Rattle.gatherer.proofs.Offered.{attempt_joined}
 use Rattle.gatherer.proofs.gatherer.Gatherer.attempt.Goals as goal
 
-pub returns-then-not-holds_all : goal.returns-then-not-holds_all
-returns-then-not-holds_all g c s h k =
+pub returns-in_err-frames : goal.returns-in_err-frames
+returns-in_err-frames g c s h k =
     let m = g.F.Family.meaning in
-    let xs = series m s h in
-    let n = c.in-Some.count in
-    let told = c.in-Some.ensures in
-    let gap = c.holds_all.ensures.some_empty c.if-not-holds_all.true in
-    let full : full_series m s xs ≡ None = sym (ap (frames_up_to m s xs) (told.due s h k)) ∙ below_empty m s xs c.args.self.now.table k.slots_are n gap.0 (told.few n refl) gap.1 gap.2 in
-    sym (ap (outcome m s) full)
-
--- the frames that are joined are the full series
-full_joins : {S T : Type 0} (m : Meaning S T) (s f : S) (xs : List ℕ) (t : Table) (n : ℕ) (o : Option (RecordOf T)) → Slots m s xs t → Some n ≡ frames_told m s xs → n ≤ 64 →
-    ((k : ℕ) → k < n → get_or t.held k false ≡ true) → f ≡ s → o ≡ m.joined f (take (n - 0) t.frames) → joined_outcome o ≡ outcome m s (full_series m s xs)
-full_joins m s f xs t n o slots told few all is e =
-    let z : n - 0 ≡ n = omega arith in
-    let full : full_series m s xs ≡ Some (take n t.frames) = sym (ap (frames_up_to m s xs) told) ∙ below_held m s xs t slots n few all in
-    ap joined_outcome (e ∙ ap (λ (i : ℕ). m.joined f (take i t.frames)) z ∙ ap (λ v. m.joined v (take n t.frames)) is) ∙ sym (ap (outcome m s) full)
+    let n = c.in_ok-count.count in
+    let e : c.from_residual-in_err-frames.result ≡ Err Incomplete = search rules in
+    let told = c.frames_told.ensures in
+    let is : c.frames_told.result ≡ Some n = c.in_ok-count.ensures.ok_part in
+    let missing : c.frames_below.result ≡ None = c.in_err-frames.ensures.ok_part in
+    let none : held_below c.args.self.now.table n ≡ None = sym c.frames_below.ensures ∙ ap (option_map (take n)) missing in
+    let full : full_series m s (series m s h) ≡ None = held_full m s (series m s h) c.args.self.now.table k.slots_are n (told.few n is) (sym (told.due s h k) ∙ is) ∙ none in
+    ap attempt_view e ∙ sym (ap (λ o. attempt_due (outcome m s o)) full)
 
 pub returns : goal.returns
 returns g c s h k =
     let m = g.F.Family.meaning in
-    let told = c.in-Some.ensures in
-    c.at_full.ensures
-    ∙ full_joins m s c.args.self.now.family (series m s h) c.args.self.now.table c.in-Some.count (join_view c.join.result) k.slots_are (told.due s h k) (told.few _ refl)
-    (c.holds_all.ensures.all c.if-not-holds_all.false) k.family_is c.join.ensures
+    let n = c.in_ok-count.count in
+    let ys = take n c.in_ok-frames.frames in
+    let told = c.frames_told.ensures in
+    let is : c.frames_told.result ≡ Some n = c.in_ok-count.ensures.ok_part in
+    let all : c.frames_below.result ≡ Some c.in_ok-frames.frames = c.in_ok-frames.ensures.ok_part in
+    let held : held_below c.args.self.now.table n ≡ Some ys = sym c.frames_below.ensures ∙ ap (option_map (take n)) all in
+    let full : full_series m s (series m s h) ≡ Some ys = held_full m s (series m s h) c.args.self.now.table k.slots_are n (told.few n is) (sym (told.due s h k) ∙ is) ∙ held in
+    let joined : join_view c.join.result ≡ m.joined s ys = c.join.ensures ∙ ap (λ f. m.joined f ys) k.family_is in
+    let result : c.ok_or-3.result ≡ ok_or c.join.result DoesNotJoin = c.ok_or-3.ensures.value in
+    let view : attempt_view c.ok_or-3.result ≡ attempt_due (joined_outcome (m.joined s ys)) = ap attempt_view result ∙ attempt_joined c.join.result ∙ ap (λ o. attempt_due (joined_outcome o)) joined in
+    view ∙ sym (ap (λ o. attempt_due (outcome m s o)) full)

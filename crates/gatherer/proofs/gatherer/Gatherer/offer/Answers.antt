@@ -1,24 +1,30 @@
-use Rattle.std.proofs.Common.{◌∷◌, sym, ap, ◌∙◌}
-use Rattle.std.proofs.lemmas.Bool.{both_ways}
-use Rattle.family.specs.Texts.{join_view}
+use Rattle.std.proofs.Common.{◌∷◌, sym, refl, ap, ◌∙◌}
+use Rattle.family.specs.Texts.{join_view, record_view}
 use Rattle.gatherer.specs.Series.{accepted}
-use Rattle.gatherer.specs.Due.{refusal_in}
-use Rattle.gatherer.specs.Agrees.{attempt_view}
-use Rattle.gatherer.proofs.Offered.{lawful_if_taken, offered}
+use Rattle.gatherer.specs.Due.{attempted, answer_to, shown_after}
+use Rattle.gatherer.proofs.Offered.{answered, joined, offered}
 use Rattle.gatherer.proofs.gatherer.Gatherer.offer.Goals as goal
 
-pub returns : goal.returns
-returns g c =
+pub returns-in-Ok-clause-taken : goal.returns-in-Ok-clause-taken
+returns-in-Ok-clause-taken g c s h k l =
     let m = g.F.Family.meaning in
     let x = c.args.frame in
     let t = c.take.ensures in
-    let a = c.answer.ensures in
-    let ok = c.in_ok-take.was in
-    record {
-      refusal = sym (ap refusal_in ok) ∙ t.refusal;
-      unchanged = λ unlawful. absurd (both_ways _ unlawful (lawful_if_taken m c.args.self.now.family x c.take.result (tt {0}) ok t.refusal));
-      taken = λ s h k l.
-          let holds = t.holds s h k.holds l in
-          offered m s h x c.take.new.self c.answer.new.self (attempt_view c.attempt-attempt.result) c.answer.result holds (ap join_view t.shown ∙ k.shown_is) (t.fresh ∙ k.fresh_is)
-          (c.attempt-attempt.ensures s (accepted x ∷ h) holds) a.answer a.shown a.fresh a.family a.state a.table;
-    }
+    let a = c.show.ensures in
+    let holds = t.holds s h k.holds l in
+    let before = join_view c.take.new.self.shown in
+    let o = attempted m s (accepted x ∷ h) in
+    let is = joined o (record_view c.in-Ok.record) (c.in-Ok.ensures s (accepted x ∷ h) holds) in
+    offered m s h x c.take.new.self c.show.new.self c.show.result holds (ap join_view t.shown ∙ k.shown_is) (t.fresh ∙ k.fresh_is)
+    (a.answer ∙ sym (ap (answer_to before) is)) (ap join_view a.shown ∙ sym (ap (shown_after before) is)) a.fresh a.family a.sequence a.table
+
+pub returns-in-Err-clause-taken : goal.returns-in-Err-clause-taken
+returns-in-Err-clause-taken g c s h k l =
+    let m = g.F.Family.meaning in
+    let x = c.args.frame in
+    let t = c.take.ensures in
+    let holds = t.holds s h k.holds l in
+    let before = join_view c.take.new.self.shown in
+    let is = answered before (attempted m s (accepted x ∷ h)) c.in-Err.answer (c.in-Err.ensures s (accepted x ∷ h) holds) in
+    offered m s h x c.take.new.self c.take.new.self c.in-Err.answer holds (ap join_view t.shown ∙ k.shown_is) (t.fresh ∙ k.fresh_is)
+    is.0 is.1 (rw is.2 refl) refl refl refl

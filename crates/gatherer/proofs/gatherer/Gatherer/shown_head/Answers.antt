@@ -1,6 +1,16 @@
-use Rattle.family.specs.Texts.{join_view}
+use Rattle.std.proofs.Common.{◌≡◌, Some, None, Err, sym, refl, ap, ◌∙◌, rules}
+use Rattle.pdu.specs.declared.refusal.Refusal.TheVariants.{NothingThere}
+use Rattle.family.specs.Texts.{join_view, record_view}
 use Rattle.gatherer.proofs.Promised.{head_shown}
 use Rattle.gatherer.proofs.gatherer.Gatherer.shown_head.Goals as goal
 
+pub returns-in_err-record : goal.returns-in_err-record
+returns-in_err-record g c s h k =
+    let none : c.args.self.now.shown ≡ None = search rules in
+    let e : c.from_residual.result ≡ Err NothingThere = search rules in
+    head_shown g.F.Family.meaning g.met.F.Family.keeps s h None (ap join_view (sym none) ∙ k.shown_is) _ e
+
 pub returns : goal.returns
-returns g c s h k = head_shown g.F.Family.meaning g.met.F.Family.keeps s h (join_view c.args.self.now.shown) k.shown_is c.head_of.result c.head_of.ensures
+returns g c s h k =
+    let some : c.args.self.now.shown ≡ Some c.in_ok-record.record.now = search rules in
+    head_shown g.F.Family.meaning g.met.F.Family.keeps s h (Some (record_view c.in_ok-record.record.now)) (ap join_view (sym some) ∙ k.shown_is) _ refl
