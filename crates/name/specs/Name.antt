@@ -5,7 +5,7 @@ use Rattle.pdu.specs.declared.refusal.Refusal.TheVariants.{TextLength, TextByte}
 use Rattle.layout.specs.declared.layout.FrameLayout.{FrameLayout}
 use Rattle.layout.specs.declared.layout.FrameFields.{FrameFields}
 use Rattle.layout.specs.Frames.{frame_count, byte_at}
-use Rattle.layout.specs.Family.{FamilyLayout}
+use Rattle.family.specs.Family.{FamilyLayout}
 use Rattle.name.specs.declared.name.Name.{Name}
 
 -- Seven characters of seven bits in each frame, and three bits behind them.

@@ -5,10 +5,10 @@ use Rattle.std.proofs.lemmas.Bool.{cases_lt, cases_eq, and_parts, and_from, leb-
 use Rattle.std.proofs.lemmas.List.{get_or_past}
 use Rattle.std.proofs.lemmas.Bool.Decides.{nat_tests}
 use Rattle.layout.specs.Frames.{frame_count, leading_of, frame_of, bytes_in, byte_at, FitBits, FitLayout, FitFields}
-use Rattle.layout.specs.Family.{record_cut}
+use Rattle.family.specs.Family.{record_cut}
 use Rattle.name.specs.Name.{name_layout, frame_layout, fields_of, text_refusal, characters, until_zero, number_in, last_in}
 use Rattle.layout.proofs.Reading.{leading_read, trailing_read, byte_read}
-use Rattle.layout.proofs.Laws.{SoundLayout, cut_long, cut_holds}
+use Rattle.family.specs.Sound.{SoundLayout, cut_long, cut_holds}
 
 pub layout_fits : FitLayout frame_layout
 layout_fits = record { byte_bits_few = omega arith; trailing_bits_few = omega arith; first_some = omega arith; first_few = omega arith; later_some = omega arith; later_few = omega arith }
@@ -33,7 +33,7 @@ small t h j =
 pub room : (n q : ℕ) → n ≤ 56 → q < 8 → FitFields frame_layout (fields_of n q)
 room n q h k = record { first_fits = omega arith; later_fits = omega arith; leading_fits = omega arith; unit_some = omega arith; trailing_fits = omega arith }
 
-until_zero_read : (f : ℕ → ℕ) (j k n : ℕ) → j ≤ n → n ≤ j + k → ((i : ℕ) → i < n → 1 ≤ f i) → (n < j + k → f n ≡ 0) → until_zero f j k ≡ n
+pub until_zero_read : (f : ℕ → ℕ) (j k n : ℕ) → j ≤ n → n ≤ j + k → ((i : ℕ) → i < n → 1 ≤ f i) → (n < j + k → f n ≡ 0) → until_zero f j k ≡ n
 until_zero_read f j zero n a b some none = omega arith
 until_zero_read f j (suc k) n a b some none =
     ⊎_elim

@@ -1,19 +1,10 @@
-use Rattle.std.proofs.Common.{sym, ◌∙◌, arith}
-use Rattle.std.proofs.lemmas.Bool.Decides.{nat_tests}
-use Rattle.name.proofs.Loops.{character_more, character_all}
+use Rattle.std.proofs.Common.{◌∙◌, ◌&&◌, leb, rules, tests}
+use Rattle.std.proofs.lemmas.Iterator.{YieldsList-from_slice}
+use Rattle.std.proofs.lemmas.Iterator.Search.{all_from_yields_List}
+use Rattle.name.proofs.Characters.{characters_all}
 use Rattle.name.proofs.name.spells_name.Goals as goal
 
-pub returns-then-text-j-lt1 : goal.returns-then-text-j-lt1
-returns-then-text-j-lt1 c =
-    let s = character_more c.args.text.now c.loop-j.j (omega arith) in
-    let i = c.loop-j.invariant in
-    grind (arith, nat_tests)
-
-pub loop-j-preserved : goal.loop-j-preserved
-loop-j-preserved c =
-    let s = character_more c.args.text.now c.loop-j.j (omega arith) in
-    let i = c.loop-j.invariant in
-    grind (arith, nat_tests)
-
 pub returns : goal.returns
-returns c = sym (character_all c.args.text.now c.loop-j.j (omega arith)) ∙ c.loop-j.invariant
+returns c =
+    let t = c.args.text.now in
+    all_from_yields_List (λ b. leb 1 b && leb b 127) _ _ c.all.result c.all.ensures.ran (YieldsList-from_slice t cc) (λ x b q k. search (rules, tests)) ∙ characters_all t
