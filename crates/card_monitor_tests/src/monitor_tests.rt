@@ -40,11 +40,11 @@ fn two_halves_in_one_pdu_are_a_location(rt: HostRuntime) -> Result<(), Fail> {
     let contents = Contents {
         first: Message::Location(LocationHalf::Latitude(LatitudeHalf {
             angle: Angle(321_095),
-            altitude_upper: 0,
+            altitude: 0,
         })),
         second: Some(Message::Location(LocationHalf::Longitude(LongitudeHalf {
             angle: Angle(-629_297),
-            altitude_lower: 6,
+            altitude: 6,
         }))),
         reserved: false,
         time_locked: false,

@@ -209,7 +209,7 @@ fn location<W: fmt::Write>(half: LocationHalf, f: &mut fmt::Formatter<W>) -> fmt
             let units = half.angle.0;
             let degrees = units.unsigned_abs() as f64 / 8192.0;
             let side = if units < 0 { "south" } else { "north" };
-            let metres = u32::from(half.altitude_upper) * 256;
+            let metres = u32::from(half.altitude) * 256;
             write!(
                 f,
                 "location: latitude {degrees:.5} degrees {side} ({units}), upper part of the altitude {metres} m"
@@ -219,7 +219,7 @@ fn location<W: fmt::Write>(half: LocationHalf, f: &mut fmt::Formatter<W>) -> fmt
             let units = half.angle.0;
             let degrees = units.unsigned_abs() as f64 / 8192.0;
             let side = if units < 0 { "west" } else { "east" };
-            let metres = u32::from(half.altitude_lower) * 16;
+            let metres = u32::from(half.altitude) * 16;
             write!(
                 f,
                 "location: longitude {degrees:.5} degrees {side} ({units}), lower part of the altitude {metres} m"

@@ -1,6 +1,6 @@
 // Message 4: one half of the transmitter's location.
-ghost use Rattle.std.specs.Prelude.{◌≡◌, true};
-ghost use Rattle.message.specs.Location.{angle_of, half_of, latitude_in_range, longitude_in_range, half_in_range, half_packed, location_of};
+ghost use Rattle.std.specs.Prelude.{◌≡◌, ℕ, ◌^◌, ◌<◌, true};
+ghost use Rattle.message.specs.Location.{angle_of, half_under, in_range_under, packed_under, half_of, half_in_range, half_packed, location_of};
 ghost use Rattle.message.specs.Results.{in_range};
 
 use crate::bits::{field_of, to_signed, to_unsigned};
@@ -14,30 +14,28 @@ pub struct Angle(pub i32);
 #[derive(Clone, Copy)]
 pub struct Altitude(pub u8);
 
+// One half of the location: an angle of at most so many units either way.
 #[derive(Clone, Copy)]
-pub struct LatitudeHalf {
+pub struct Half<const LIMIT: u32> {
     pub angle: Angle,
-    // The upper four bits of the altitude.
-    pub altitude_upper: u8,
-}
-
-#[derive(Clone, Copy)]
-pub struct LongitudeHalf {
-    pub angle: Angle,
-    // The lower four bits of the altitude.
-    pub altitude_lower: u8,
-}
-
-#[derive(Clone, Copy)]
-pub enum LocationHalf {
-    Latitude(LatitudeHalf),
-    Longitude(LongitudeHalf),
+    // Four bits of the altitude: the upper in a latitude half, the lower in a longitude half.
+    pub altitude: u8,
 }
 
 // 90 and 180 degrees.
 const LATITUDE_LIMIT: u32 = 737_280;
 
 const LONGITUDE_LIMIT: u32 = 1_474_560;
+
+pub type LatitudeHalf = Half<LATITUDE_LIMIT>;
+
+pub type LongitudeHalf = Half<LONGITUDE_LIMIT>;
+
+#[derive(Clone, Copy)]
+pub enum LocationHalf {
+    Latitude(LatitudeHalf),
+    Longitude(LongitudeHalf),
+}
 
 impl Angle {
     fn parse(payload: u64) -> Angle
@@ -47,20 +45,31 @@ impl Angle {
     }
 }
 
-impl LatitudeHalf {
+impl<const LIMIT: u32> Half<LIMIT> {
+    // The half in the last 26 bits of a payload.
+    fn parse(payload: u64) -> Half<LIMIT>
+        ensures { result ≡ half_under LIMIT payload }
+    {
+        Half {
+            angle: Angle::parse(payload),
+            altitude: field_of(payload, 4, 0) as u8,
+        }
+    }
+
+    // The 26 bits of the half.
+    fn packed(&self) -> u64
+        requires { (LIMIT < 2 ^ 21) × (in_range_under LIMIT self.now ≡ true) }
+        ensures value { result ≡ packed_under LIMIT self.now }
+        ensures small { result < 2 ^ 26 }
+    {
+        to_unsigned(self.angle.0, 1 << 21) * 16 + u64::from(self.altitude)
+    }
+
     // Whether the angle is within its limit and the altitude has four bits.
     fn is_in_range(&self) -> bool
-        ensures { result ≡ latitude_in_range self.now }
+        ensures { result ≡ in_range_under LIMIT self.now }
     {
-        self.angle.0.unsigned_abs() <= LATITUDE_LIMIT && self.altitude_upper < 16
-    }
-}
-
-impl LongitudeHalf {
-    fn is_in_range(&self) -> bool
-        ensures { result ≡ longitude_in_range self.now }
-    {
-        self.angle.0.unsigned_abs() <= LONGITUDE_LIMIT && self.altitude_lower < 16
+        self.angle.0.unsigned_abs() <= LIMIT && self.altitude < 16
     }
 }
 
@@ -69,18 +78,10 @@ impl LocationHalf {
     pub(crate) fn parse(payload: u64) -> Result<LocationHalf, Refusal>
         ensures { result ≡ in_range (half_in_range (half_of payload)) (half_of payload) }
     {
-        let angle = Angle::parse(payload);
-        let altitude = field_of(payload, 4, 0) as u8;
         let half = if field_of(payload, 1, 26) == 1 {
-            LocationHalf::Latitude(LatitudeHalf {
-                angle,
-                altitude_upper: altitude,
-            })
+            LocationHalf::Latitude(Half::parse(payload))
         } else {
-            LocationHalf::Longitude(LongitudeHalf {
-                angle,
-                altitude_lower: altitude,
-            })
+            LocationHalf::Longitude(Half::parse(payload))
         };
         if half.is_in_range() {
             Ok(half)
@@ -96,14 +97,8 @@ impl LocationHalf {
             return Err(Refusal::OutOfRange);
         }
         match self {
-            LocationHalf::Latitude(half) => {
-                let units = to_unsigned(half.angle.0, 1 << 21);
-                Ok(((1 << 22) + units) * 16 + u64::from(half.altitude_upper))
-            }
-            LocationHalf::Longitude(half) => {
-                let units = to_unsigned(half.angle.0, 1 << 21);
-                Ok(units * 16 + u64::from(half.altitude_lower))
-            }
+            LocationHalf::Latitude(half) => Ok((1 << 26) + half.packed()),
+            LocationHalf::Longitude(half) => Ok(half.packed()),
         }
     }
 
@@ -125,7 +120,7 @@ pub fn location(
     ensures { result ≡ location_of latitude longitude }
 {
     if latitude.is_in_range() && longitude.is_in_range() {
-        let altitude = latitude.altitude_upper * 16 + longitude.altitude_lower;
+        let altitude = latitude.altitude * 16 + longitude.altitude;
         Ok((latitude.angle, longitude.angle, Altitude(altitude)))
     } else {
         Err(Refusal::OutOfRange)

@@ -30,9 +30,7 @@ impl Message {
         ensures value { result ≡ parsed number payload }
         ensures written_again { (m : Message) → result ≡ Ok m → (number_of m ≡ number) × (payload_of m ≡ Ok payload) }
     {
-        let Some(size) = payload_size(number) else {
-            return Err(Refusal::ReservedMessage);
-        };
+        let size = payload_size(number).ok_or(Refusal::ReservedMessage)?;
         if payload >= 1 << size {
             return Err(Refusal::OutOfRange);
         }

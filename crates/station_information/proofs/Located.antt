@@ -4,11 +4,9 @@ use Rattle.std.proofs.lemmas.Bool.{and_from}
 use Rattle.pdu.specs.declared.refusal.Refusal.TheVariants.{OutOfRange}
 use Rattle.message.specs.declared.message.Message.{Message}
 use Rattle.message.specs.declared.message.Message.TheVariants.{StationId, ShortName, Frame, Location, Service, Parameter, Universal}
-use Rattle.message.specs.declared.location.LatitudeHalf.{LatitudeHalf}
-use Rattle.message.specs.declared.location.LongitudeHalf.{LongitudeHalf}
 use Rattle.message.specs.declared.location.LocationHalf.{LocationHalf}
 use Rattle.message.specs.declared.location.LocationHalf.TheVariants.{Latitude, Longitude}
-use Rattle.message.specs.Location.{latitude_in_range, longitude_in_range, half_in_range, half_packed}
+use Rattle.message.specs.Location.{LatitudeHalf, LongitudeHalf, latitude_in_range, longitude_in_range, half_in_range, half_packed}
 use Rattle.message.proofs.Ranges.{range_parts}
 use Rattle.message.specs.Message.{payload_of}
 use Rattle.station_information.specs.Hearings.{Hearing, heard, forgot, first_of, latest}

@@ -8,8 +8,6 @@ use Rattle.message.specs.declared.station.StationId.{StationId as Id}
 use Rattle.message.specs.declared.station.ShortName.{ShortName as Short}
 use Rattle.message.specs.declared.location.Angle.{Angle}
 use Rattle.message.specs.declared.location.Altitude.{Altitude}
-use Rattle.message.specs.declared.location.LatitudeHalf.{LatitudeHalf}
-use Rattle.message.specs.declared.location.LongitudeHalf.{LongitudeHalf}
 use Rattle.message.specs.declared.location.LocationHalf.{LocationHalf}
 use Rattle.message.specs.declared.location.LocationHalf.TheVariants.{Latitude, Longitude}
 use Rattle.message.specs.declared.service.AudioService.{AudioService}
@@ -19,7 +17,7 @@ use Rattle.message.specs.declared.parameter.LeapSeconds.{LeapSeconds}
 use Rattle.message.specs.declared.parameter.LocalTime.{LocalTime}
 use Rattle.message.specs.declared.parameter.Parameter.{Parameter as ParameterType}
 use Rattle.message.specs.declared.parameter.Parameter.TheVariants.{Leap, Local, Unread}
-use Rattle.message.specs.Location.{location_of}
+use Rattle.message.specs.Location.{LatitudeHalf, LongitudeHalf, location_of}
 use Rattle.station_information.specs.Hearings.{Hearing, latest}
 
 -- Whether a message tells nothing of the station: a text frame, 58 unread bits, a data service, an unread parameter.

@@ -7,17 +7,17 @@ use message::station::{CountryCode, StationId};
 use pdu::refusal::Refusal;
 use std::test::Fail;
 
-fn latitude(units: i32, altitude_upper: u8) -> Message {
+fn latitude(units: i32, altitude: u8) -> Message {
     Message::Location(LocationHalf::Latitude(LatitudeHalf {
         angle: Angle(units),
-        altitude_upper,
+        altitude,
     }))
 }
 
-fn longitude(units: i32, altitude_lower: u8) -> Message {
+fn longitude(units: i32, altitude: u8) -> Message {
     Message::Location(LocationHalf::Longitude(LongitudeHalf {
         angle: Angle(units),
-        altitude_lower,
+        altitude,
     }))
 }
 

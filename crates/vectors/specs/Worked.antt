@@ -3,14 +3,12 @@ use Rattle.std.specs.Prelude.{◌≡◌, ℕ, ◌+◌, ◌*◌, ◌/◌, ◌^◌
 use Rattle.std.proofs.Common.{lit<}
 use Rattle.message.specs.declared.location.Angle.{Angle}
 use Rattle.message.specs.declared.location.Altitude.{Altitude}
-use Rattle.message.specs.declared.location.LatitudeHalf.{LatitudeHalf}
-use Rattle.message.specs.declared.location.LongitudeHalf.{LongitudeHalf}
 use Rattle.message.specs.declared.location.LocationHalf.TheVariants.{Latitude, Longitude}
 use Rattle.message.specs.declared.message.Message.{Message as MessageType}
 use Rattle.message.specs.declared.message.Message.TheVariants.{StationId, Frame, Location, Parameter}
 use Rattle.message.specs.declared.parameter.Parameter.TheVariants.{Local}
 use Rattle.message.specs.declared.place.Place.TheVariants.{Name, Message, Alert}
-use Rattle.message.specs.Location.{location_of}
+use Rattle.message.specs.Location.{LatitudeHalf, LongitudeHalf, location_of}
 use Rattle.message.specs.Message.{parsed}
 use Rattle.family.specs.Meaning.{RecordOf, Meaning}
 use Rattle.layout.specs.Family.{meaning_of}
@@ -85,10 +83,10 @@ alert1 = 2 ^ 52
 
 -- The two known halves of a location, each 27 bits left-justified in 28.
 abbrev latitude : LatitudeHalf
-latitude = record { angle = record { 0 = pos 321095 }; altitude_upper = 0 }
+latitude = record { angle = record { 0 = pos 321095 }; altitude = 0 }
 
 abbrev longitude : LongitudeHalf
-longitude = record { angle = record { 0 = negsuc 629296 }; altitude_lower = 6 }
+longitude = record { angle = record { 0 = negsuc 629296 }; altitude = 6 }
 
 -- The local time with the offset 11011010100, 1748 without its sign, which is −300 minutes.
 abbrev eastern : MessageType

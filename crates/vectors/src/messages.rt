@@ -13,7 +13,7 @@ fn parsed(number: u8, payload: u64) -> u8 {
 fn latitude(units: i32) -> u8 {
     let half = LatitudeHalf {
         angle: Angle(units),
-        altitude_upper: 15,
+        altitude: 15,
     };
     match Message::Location(LocationHalf::Latitude(half)).payload() {
         Ok(payload) => parsed(4, payload),
@@ -24,7 +24,7 @@ fn latitude(units: i32) -> u8 {
 fn longitude(units: i32) -> u8 {
     let half = LongitudeHalf {
         angle: Angle(units),
-        altitude_lower: 15,
+        altitude: 15,
     };
     match Message::Location(LocationHalf::Longitude(half)).payload() {
         Ok(payload) => parsed(4, payload),
