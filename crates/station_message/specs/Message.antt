@@ -5,7 +5,7 @@ use Rattle.pdu.specs.declared.refusal.Refusal.TheVariants.{TextLength, HeadSetti
 use Rattle.layout.specs.declared.layout.FrameLayout.{FrameLayout}
 use Rattle.layout.specs.declared.layout.FrameFields.{FrameFields}
 use Rattle.layout.specs.Frames.{frame_count}
-use Rattle.layout.specs.Family.{FamilyLayout}
+use Rattle.family.specs.Family.{FamilyLayout}
 use Rattle.station_message.specs.declared.message.StationMessage.{StationMessage}
 use Rattle.station_message.specs.declared.message.MessageHead.{MessageHead}
 use Rattle.station_message.specs.Checksum.{checksum_of}

@@ -5,9 +5,9 @@ use Rattle.std.proofs.lemmas.Bool.{and_from, and_parts, lt-ltb, ltb-true, eq-eqb
 use Rattle.std.proofs.lemmas.Bool.Decides.{nat_tests}
 use Rattle.family.specs.Meaning.{RecordOf, Fit}
 use Rattle.layout.specs.Frames.{frame_count, FitLayout, FitFields}
-use Rattle.layout.specs.Family.{meaning_of}
+use Rattle.family.specs.Family.{meaning_of}
 use Rattle.layout.proofs.Reading.{first_read, later_read}
-use Rattle.layout.proofs.Laws.{SoundLayout, frame_in, count_of, cut_first, each}
+use Rattle.family.specs.Sound.{SoundLayout, frame_in, count_of, cut_first, each}
 use Rattle.station_message.specs.declared.message.StationMessage.{StationMessage}
 use Rattle.station_message.specs.declared.message.MessageHead.{MessageHead}
 use Rattle.station_message.specs.Checksum.{checksum_of}

@@ -1,18 +1,15 @@
 // The frames of a station message. Every frame begins with its number in 5 bits and its sequence number in 2. Frame 0 goes on with the priority in 1 bit, the encoding in 3, the length in 8, the checksum in 7 and four bytes; a later frame with 3 reserved bits and six bytes.
-ghost use Rattle.std.specs.Prelude.{◌≡◌, length};
+ghost use Rattle.std.specs.Prelude.{◌≡◌, length, refl};
 ghost use Rattle.family.specs.Texts.{bytes_of};
-ghost use Rattle.layout.specs.Family.{meaning_of};
 ghost use Rattle.station_message.specs.Checksum.{checksum_of};
-ghost use Rattle.station_message.specs.Message.{message_layout, lawful_encoding, lawful_length, fields_of, number_in, sequence_in, reserved_in, length_in, head_in, last_in};
-ghost use Rattle.layout.proofs.Laws;
+ghost use Rattle.station_message.specs.Message.{frame_layout, message_layout, lawful_encoding, lawful_length, fields_of, reserved_in, length_in};
 ghost use Rattle.station_message.specs.Sound.{sound};
 
 use crate::checksum::checksum;
-use family::family::{Family, Payload};
+use family::family_layout::FamilyLayout;
 use family::text::{Record, Text};
 use layout::frames::frame_or_zero;
-use layout::layout::{FrameFields, FrameLayout};
-use layout::refusing::{require, unless_refused};
+use layout::layout::{FrameFields, FrameLayout, Payload};
 use pdu::refusal::Refusal;
 
 #[derive(Clone, Copy)]
@@ -25,13 +22,6 @@ pub struct MessageHead {
     pub encoding: u8,
 }
 
-const LAYOUT: FrameLayout = FrameLayout {
-    byte_bits: 8,
-    trailing_bits: 0,
-    first_bytes: 4,
-    later_bytes: 6,
-};
-
 fn lawful_encoding(encoding: u8) -> bool
     ensures { result ≡ lawful_encoding encoding }
 {
@@ -42,6 +32,19 @@ fn lawful_length(length: usize) -> bool
     ensures { result ≡ lawful_length length }
 {
     4 <= length && length <= 190
+}
+
+fn reserved_in(frame: Payload) -> u64
+    ensures { result ≡ reserved_in frame }
+{
+    (frame >> 48) % 8
+}
+
+// The length that frame 0 tells.
+fn length_told(frame: Payload) -> usize
+    ensures { result ≡ length_in frame }
+{
+    ((frame >> 39) % 256) as usize
 }
 
 // The fields of a message's frames.
@@ -58,59 +61,31 @@ fn fields_of(head: MessageHead, text: &Text, sequence: u8) -> FrameFields
     }
 }
 
-fn number_in(frame: Payload) -> usize
-    ensures { result ≡ number_in frame }
-{
-    ((frame >> 53) % 32) as usize
-}
-
-fn sequence_in(frame: Payload) -> u8
-    ensures { result ≡ sequence_in frame }
-{
-    ((frame >> 51) % 4) as u8
-}
-
-fn reserved_in(frame: Payload) -> u64
-    ensures { result ≡ reserved_in frame }
-{
-    (frame >> 48) % 8
-}
-
-fn head_in(frame: Payload) -> MessageHead
-    ensures { result ≡ head_in frame }
-{
-    MessageHead {
-        priority: ((frame >> 50) % 2) as u8,
-        encoding: ((frame >> 47) % 8) as u8,
-    }
-}
-
-fn length_in(frame: Payload) -> usize
-    ensures { result ≡ length_in frame }
-{
-    ((frame >> 39) % 256) as usize
-}
-
-fn last_in(frame: Payload) -> usize
-    ensures { result ≡ last_in frame }
-{
-    LAYOUT.frame_count(length_in(frame)) - 1
-}
-
-impl Family for StationMessage {
+impl FamilyLayout for StationMessage {
     type Head = MessageHead;
 
     const MODULUS: u8 = 4;
 
-    ghost meaning = { meaning_of message_layout };
+    const FRAME_LAYOUT: FrameLayout = FrameLayout {
+        byte_bits: 8,
+        trailing_bits: 0,
+        first_bytes: 4,
+        later_bytes: 6,
+    };
 
-    ghost keeps = { Laws.keeps message_layout sound };
+    ghost MODULUS = { 4 };
 
-    fn sequence_numbers(&self) -> u8 {
-        Self::MODULUS
-    }
+    ghost FRAME_LAYOUT = { frame_layout };
 
-    fn refusal(&self, record: &Record<MessageHead>) -> Option<Refusal> {
+    ghost layout = { message_layout };
+
+    ghost modulus_is = { refl };
+
+    ghost frame_layout_is = { refl };
+
+    ghost sound = { sound };
+
+    fn why_refused(&self, record: &Record<MessageHead>) -> Option<Refusal> {
         if record.head.priority > 1 || !lawful_encoding(record.head.encoding) {
             return Some(Refusal::HeadSettingOrPlace);
         }
@@ -120,68 +95,41 @@ impl Family for StationMessage {
         None
     }
 
-    fn frame_count(&self, record: &Record<MessageHead>) -> Result<usize, Refusal> {
-        unless_refused(self.refusal(record))?;
-        Ok(LAYOUT.frame_count(record.text.len))
-    }
-
-    fn frame(
-        &self,
-        record: &Record<MessageHead>,
-        sequence: u8,
-        i: usize,
-    ) -> Result<Payload, Refusal> {
-        let count = self.frame_count(record)?;
-        if sequence >= Self::MODULUS || i >= count {
-            return Err(Refusal::OutOfRange);
-        }
-        let fields = fields_of(record.head, &record.text, sequence);
-        Ok(LAYOUT.frame(fields, &record.text, i))
-    }
-
-    fn is_lawful(&self, frame: Payload) -> bool {
+    fn accepts(&self, frame: Payload) -> bool {
         if frame >= 1 << 58 {
             return false;
         }
-        if number_in(frame) == 0 {
-            lawful_encoding(head_in(frame).encoding) && lawful_length(length_in(frame))
+        if self.number_in(frame) == 0 {
+            lawful_encoding(self.head_in(frame).encoding) && lawful_length(length_told(frame))
         } else {
             reserved_in(frame) == 0
         }
     }
 
-    fn number(&self, frame: Payload) -> Result<usize, Refusal> {
-        require(self.is_lawful(frame), Refusal::UnlawfulFrame)?;
-        Ok(number_in(frame))
+    fn number_in(&self, frame: Payload) -> usize {
+        ((frame >> 53) % 32) as usize
     }
 
-    fn sequence(&self, frame: Payload) -> Result<u8, Refusal> {
-        require(self.is_lawful(frame), Refusal::UnlawfulFrame)?;
-        Ok(sequence_in(frame))
+    fn sequence_in(&self, frame: Payload) -> u8 {
+        ((frame >> 51) % 4) as u8
     }
 
-    fn last_number(&self, frame: Payload) -> Result<usize, Refusal> {
-        require(
-            self.is_lawful(frame) && number_in(frame) == 0,
-            Refusal::UnlawfulFrame,
-        )?;
-        Ok(last_in(frame))
+    fn last_in(&self, frame: Payload) -> usize {
+        Self::FRAME_LAYOUT.frame_count(length_told(frame)) - 1
     }
 
-    fn join(&self, frames: &[Payload]) -> Option<Record<MessageHead>> {
-        let first = frame_or_zero(frames, 0);
-        let record = Record {
-            head: head_in(first),
-            text: LAYOUT.text_in(frames, length_in(first)),
-        };
-        if self.refusal(&record).is_some() {
-            return None;
+    fn head_in(&self, frame: Payload) -> MessageHead {
+        MessageHead {
+            priority: ((frame >> 50) % 2) as u8,
+            encoding: ((frame >> 47) % 8) as u8,
         }
-        let fields = fields_of(record.head, &record.text, sequence_in(first));
-        if LAYOUT.is_cut(fields, &record.text, frames) {
-            Some(record)
-        } else {
-            None
-        }
+    }
+
+    fn length_in(&self, frames: &[Payload]) -> usize {
+        length_told(frame_or_zero(frames, 0))
+    }
+
+    fn fields(&self, record: &Record<MessageHead>, sequence: u8) -> FrameFields {
+        fields_of(record.head, &record.text, sequence)
     }
 }
