@@ -3,6 +3,7 @@ use Rattle.std.specs.Prelude.{ℕ, Bool, Some, None, Option}
 use Rattle.family.specs.Meaning.{Meaning}
 use Rattle.message.specs.declared.place.Place.{Place}
 use Rattle.message.specs.declared.place.Place.TheVariants.{Name, Message, Alert}
+use Rattle.transport.specs.declared.families.Families.{Families as Lent}
 use Rattle.transport.specs.declared.head.Head.{Head}
 use Rattle.transport.specs.declared.head.Head.TheVariants.{Name as NameHead, Message as MessageHead, Alert as AlertHead}
 use Rattle.transport.specs.Transport.{lawful_at}
@@ -29,6 +30,10 @@ families nm n mm m em e = record {
 -- Which frames are lawful at each place.
 abbrev pub lawful_in : {N T M U E V : Type 0} → Families N T M U E V → Place → ℕ → Bool
 lawful_in f = lawful_at (f.name.meaning.lawful f.name.setting) (f.message.meaning.lawful f.message.setting) (f.alert.meaning.lawful f.alert.setting)
+
+-- The same of families that are lent together, by what each means.
+abbrev pub lawful_to : {N T M U A V : Type 0} → Meaning N T → Meaning M U → Meaning A V → Lent N M A → Place → ℕ → Bool
+lawful_to nm mm am f = lawful_at (nm.lawful f.name.now) (mm.lawful f.message.now) (am.lawful f.alert.now)
 
 -- A place of a station with heads of the sort R: which one it is, its family, and the heads that are its own.
 pub record PlaceOf (S T R : Type 0) : Type 0 where

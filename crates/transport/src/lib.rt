@@ -1,5 +1,5 @@
 // PDUs and heads with the families of a station.
 #![tactic(auto)]
 
+pub mod families;
 pub mod head;
-pub mod transport;
