@@ -12,9 +12,10 @@ use Rattle.family.specs.Meaning.{Laws}
 use Rattle.transport.specs.declared.head.Head.{Head}
 use Rattle.transport.specs.Transport.{if_lawful, read_with}
 use Rattle.transport.specs.Families.{Families, lawful_in}
+use Rattle.card.specs.declared.station.Station.{Station}
 use Rattle.card.specs.declared.card.Card.{Card}
 use Rattle.card.specs.Calls.{Call, draw, accepted_draws}
-use Rattle.card.specs.Due.{StationOf, contents_due}
+use Rattle.card.specs.Due.{contents_due}
 use Rattle.card.specs.Agrees.{Agrees, DrawnSo}
 use Rattle.card.proofs.Rounding.{name_once, message_once, alert_once}
 use Rattle.card.proofs.Written.{due_written}
@@ -25,7 +26,7 @@ is_taken found t = rw t refl
 not_taken : (found : List ℕ) → eqb (length found) 10 ≡ false → taken found ≡ Err NotTenBytes
 not_taken found t = rw t refl
 
-module _ {N T M U E V : Type 0} (f : Families N T M U E V) (st : StationOf) (h : List (Call (Head T U V))) (names : Laws f.name.meaning) (messages : Laws f.message.meaning) (alerts : Laws f.alert.meaning) where
+module _ {N T M U E V : Type 0} (f : Families N T M U E V) (st : Station) (h : List (Call (Head T U V))) (names : Laws f.name.meaning) (messages : Laws f.message.meaning) (alerts : Laws f.alert.meaning) where
   drawn_so : (found left : List ℕ) (answer : Result (Unit {0}) Refusal) (k : Card N M E T U V) → answer ≡ cond (eqb (length found) 10) (Ok tt) (Err NotTenBytes) → left ≡ buffer_after (contents_due f st h) found →
       (length found ≡ 10 → encoded (contents_due f st h) ≡ Ok (record { bytes = left })) → (length found ≡ 10 → read_with (lawful_in f) left ≡ Ok (contents_due f st h)) → Agrees f st (draw (length found) ∷ h) k → DrawnSo f st h found answer left k
   drawn_so found left answer k a b w r agrees = record {
@@ -45,8 +46,7 @@ module _ {N T M U E V : Type 0} (f : Families N T M U E V) (st : StationOf) (h :
       let t = ne_eqb (length found) 10 other in
       drawn_so found found (Err NotTenBytes) k (rw t refl) (sym (ap (λ r. elim (and_then r (λ _. encoded (contents_due f st h))) [ Ok p ↦ p.bytes | Err e ↦ found ]) (not_taken found t))) (λ e. absurd (other e)) (λ e. absurd (other e)) (record {
         station_fits = agrees.station_fits;
-        id_is = agrees.id_is;
-        short_name_is = agrees.short_name_is;
+        station_is = agrees.station_is;
         turn_is = rw (t, add-zero (accepted_draws h)) agrees.turn_is;
         name_agrees = rw t agrees.name_agrees;
         message_agrees = rw t agrees.message_agrees;

@@ -14,8 +14,9 @@ use Rattle.airing.specs.Due.{frame_drawn}
 use Rattle.airing.specs.Rounds.{draws, with_frame, frames_since, occurrences}
 use Rattle.airing.specs.Agrees.{LawfulRecords}
 use Rattle.airing.proofs.Rounding.{round}
+use Rattle.card.specs.declared.station.Station.{Station}
 use Rattle.card.specs.Calls.{Call, store, withdraw, draw, accepted_draws, turn_after, turn_of, own_record, with_call, calls_at}
-use Rattle.card.specs.Due.{StationOf, frame_message, frame_at_turn, frame_or_station, contents_due}
+use Rattle.card.specs.Due.{frame_message, frame_at_turn, frame_or_station, contents_due}
 use Rattle.card.specs.Rounds.{frames_drawn, calls_since, cut_at, Round, EachFrameOnce}
 use Rattle.card.proofs.Projected.{store_skipped, calls_split, draws_split}
 
@@ -89,7 +90,7 @@ module _ {S T R : Type 0} (p : PlaceOf S T R) (h : List (Call R)) where
         | false ↦ before ∙ ap (hits t (accepted_draws h)) (sym (add-zero (accepted_draws since)))
       ]
 
-module _ {N T M U E V S X : Type 0} (f : Families N T M U E V) (st : StationOf) (p : PlaceOf S X (Head T U V))
+module _ {N T M U E V S X : Type 0} (f : Families N T M U E V) (st : Station) (p : PlaceOf S X (Head T U V))
     (given : (h : List (Call (Head T U V))) → frame_in p.place (contents_due f st h).first ≡ cond (eqb (turn_after h) (turn_of p.place)) (frame_drawn p.family.meaning p.family.setting (calls_at p h)) None) where
   -- the frames of the place in the PDUs drawn are those that its draws gave
   frames_drawn_lem : (h since : List (Call (Head T U V))) → frames_drawn f st p.place h since ≡ frames_since p.family.meaning p.family.setting (calls_at p h) (calls_since p h since)
@@ -136,11 +137,11 @@ module _ {N T M U E V S X : Type 0} (f : Families N T M U E V) (st : StationOf) 
       ap (occurrences (get_or (cut_at p b) i 0)) (frames_drawn_lem b w.since) ∙ at_place
 
 -- what the PDU of a place's frame, or of the station, holds for a place
-own : (st : StationOf) (p q : Place) (o : Option ℕ) → frame_in p (frame_or_station st (frame_message q o)).first ≡ cond (eqb (place_number q) (place_number p)) o None
+own : (st : Station) (p q : Place) (o : Option ℕ) → frame_in p (frame_or_station st (frame_message q o)).first ≡ cond (eqb (place_number q) (place_number p)) o None
 own st p q None = let P : Bool → Type 0 = λ b. ◌≡◌ {A = Option ℕ} None (cond b None None) in elim (eqb (place_number q) (place_number p)) as P [ true ↦ refl | false ↦ refl ]
 own st p q (Some x) = refl
 
-module _ {N T M U E V : Type 0} (f : Families N T M U E V) (st : StationOf) where
+module _ {N T M U E V : Type 0} (f : Families N T M U E V) (st : Station) where
   module _ (h : List (Call (Head T U V))) where
     abbrev frames : Place → Option ℕ
     frames Name = frame_drawn f.name.meaning f.name.setting (calls_at (name_place f) h)

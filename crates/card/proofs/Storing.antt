@@ -1,17 +1,16 @@
 -- A store, at its place and at the others.
-use Rattle.std.proofs.Common.{◌≡◌, ℕ, Bool, true, false, List, ◌∷◌, Some, None, Err, Option, Result, refl, ap, ◌∙◌, arith}
+use Rattle.std.proofs.Common.{◌≡◌, ℕ, List, ◌∷◌, Some, None, Err, Option, Result, refl, ap, ◌∙◌}
 use Rattle.std.proofs.lemmas.Bool.{eq-eqb}
 use Rattle.pdu.specs.declared.refusal.Refusal.{Refusal}
-use Rattle.pdu.specs.declared.refusal.Refusal.TheVariants.{OutOfRange}
-use Rattle.message.specs.Place.{place_number}
-use Rattle.message.specs.Results.{in_range}
+use Rattle.message.specs.Place.{place_number, place_with}
 use Rattle.family.specs.Meaning.{RecordOf}
 use Rattle.transport.specs.Families.{PlaceOf}
+use Rattle.transport.proofs.Places.{place_number_lem}
 use Rattle.airing.specs.declared.place.Place.{Place as AiredPlace}
 use Rattle.airing.specs.declared.stored.Stored.{Stored}
 use Rattle.airing.specs.Calls.{Call as PlaceCall}
 use Rattle.airing.specs.Agrees.{Agrees as AgreesAt, Accepted}
-use Rattle.card.specs.Calls.{Call, store, own_record, calls_at}
+use Rattle.card.specs.Calls.{Call, store, with_head, own_record, calls_at}
 use Rattle.card.specs.Due.{store_due_at}
 use Rattle.card.specs.Agrees.{PlaceAgrees}
 
@@ -20,24 +19,21 @@ pub record StoredAt {S T R : Type 0} (p : PlaceOf S T R) (h : List (Call R)) (n 
   pub answer_is : answer ≡ store_due_at p h r
   pub agrees : PlaceAgrees p (store n r ∷ h) a
 
--- a is the place as found, and b as left by its own store of x
-pub stored_at : {S T R : Type 0} (p : PlaceOf S T R) (h : List (Call R)) (n : ℕ) (r : RecordOf R) (x : RecordOf T) (answer : Result Stored Refusal) (a b : AiredPlace S T) →
-    n ≡ place_number p.place → own_record p r ≡ Some x → PlaceAgrees p h a →
-    ((e : Refusal) → p.family.meaning.refusal a.family x ≡ Some e → answer ≡ Err e) → ((e : Refusal) → answer ≡ Err e → b ≡ a) →
-    ((s : S) (c : List (PlaceCall T)) → AgreesAt p.family.meaning s c a → p.family.meaning.refusal s x ≡ None → Accepted p.family.meaning s c x answer b) → StoredAt p h n r answer b
-stored_at {S} {T} {R} p h n r x answer a b number own agrees refuses unchanged accepts =
+-- a is the place as found, and b as left by its own store of the record r, which has the head x
+pub stored_at : {S T R : Type 0} (p : PlaceOf S T R) (h : List (Call R)) (n : ℕ) (r : RecordOf R) (x : T) (answer : Result Stored Refusal) (a b : AiredPlace S T) →
+    place_with n ≡ Some p.place → p.own_head r.head ≡ Some x → PlaceAgrees p h a →
+    ((e : Refusal) → p.family.meaning.refusal a.family (record { head = x; text = r.text }) ≡ Some e → answer ≡ Err e) → ((e : Refusal) → answer ≡ Err e → b ≡ a) →
+    ((s : S) (c : List (PlaceCall T)) → AgreesAt p.family.meaning s c a → p.family.meaning.refusal s (record { head = x; text = r.text }) ≡ None → Accepted p.family.meaning s c (record { head = x; text = r.text }) answer b) → StoredAt p h n r answer b
+stored_at {S} {T} {R} p h n r x answer a b place head agrees refuses unchanged accepts =
     let m = p.family.meaning in
     let s = p.family.setting in
-    let t = eq-eqb n (place_number p.place) number in
-    let P : Option Refusal → Type 0 = λ o. m.refusal s x ≡ o → StoredAt p h n r answer b in
+    let y : RecordOf T = record { head = x; text = r.text } in
+    let t = eq-eqb n (place_number p.place) (place_number_lem n p.place place) in
+    let own : own_record p r ≡ Some y = ap (λ v. with_head v r.text) head in
+    let P : Option Refusal → Type 0 = λ o. m.refusal s y ≡ o → StoredAt p h n r answer b in
     let go : (o : Option Refusal) → P o = λ o. elim o as P [
       | None ↦ λ lawful. (let k = accepts s (calls_at p h) agrees lawful in record { answer_is = rw (own, lawful) k.answer_is; agrees = rw (t, own, lawful) k.agrees })
       | Some e ↦ λ refused.
-          (let is = refuses e (ap (λ v. m.refusal v x) agrees.family_is ∙ refused) in record { answer_is = rw (own, refused) is; agrees = rw (t, own, refused, unchanged e is) agrees })
+          (let is = refuses e (ap (λ v. m.refusal v y) agrees.family_is ∙ refused) in record { answer_is = rw (own, refused) is; agrees = rw (t, own, refused, unchanged e is) agrees })
     ] in
-    go (m.refusal s x) refl
-
--- a field out of range
-pub out_of_range : (b : Bool) (x : ℕ) (e : Refusal) → in_range b x ≡ Err e → (b ≡ false) × (e ≡ OutOfRange)
-out_of_range true x e is = absurd (let z : ◌≡◌ {A = ℕ} 0 1 = cc in omega arith)
-out_of_range false x e is = (refl, cc)
+    go (m.refusal s y) refl

@@ -24,8 +24,9 @@ use Rattle.transport.specs.Families.{Families, lawful_in, name_place, message_pl
 use Rattle.airing.specs.Due.{frame_drawn}
 use Rattle.airing.specs.Agrees.{LawfulRecords}
 use Rattle.airing.proofs.Changes.{drawn_lawful}
+use Rattle.card.specs.declared.station.Station.{Station}
 use Rattle.card.specs.Calls.{Call, turn_after, calls_at}
-use Rattle.card.specs.Due.{StationOf, station_fits, contents_of, station_contents, frame_message, frame_or_station, contents_due}
+use Rattle.card.specs.Due.{station_fits, contents_of, station_contents, frame_message, frame_or_station, contents_due}
 
 -- The contents can be written, and their frames are lawful.
 pub record Writable (lawful : Place → ℕ → Bool) (c : Contents) : Type 0 where
@@ -37,7 +38,7 @@ pub record Writable (lawful : Place → ℕ → Bool) (c : Contents) : Type 0 wh
 composes : (c : Contents) (f : Fields) → fields_of c ≡ Ok f → f.number < 16 → f.area < 2 ^ 58 → f.pair < 4 → encoded c ≡ Ok (checked (unchecked_number f))
 composes c f is n a p = then_ok (fields_of c) f composed is ∙ composed_right f (fits f n a p)
 
-pub station_written : (lawful : Place → ℕ → Bool) (st : StationOf) → station_fits st ≡ true → Writable lawful (station_contents st)
+pub station_written : (lawful : Place → ℕ → Bool) (st : Station) → station_fits st ≡ true → Writable lawful (station_contents st)
 station_written lawful st ok =
     let c = station_contents st in
     let in_both = and_parts (station_in_range st.id) (short_name_in_range st.short_name) ok in
@@ -73,15 +74,15 @@ frame_written lawful p x small ok =
     record { pdu = checked (unchecked_number f); written = composes c f (frame_fields p x small) (place_small p) area (omega arith); lawful_frames = rw ok refl }
 
 -- the next PDU of a place, or of the station
-turn_written : (lawful : Place → ℕ → Bool) (st : StationOf) (p : Place) (o : Option ℕ) → station_fits st ≡ true → ((x : ℕ) → o ≡ Some x → (x < 2 ^ 58) × (lawful p x ≡ true)) → Writable lawful (frame_or_station st (frame_message p o))
+turn_written : (lawful : Place → ℕ → Bool) (st : Station) (p : Place) (o : Option ℕ) → station_fits st ≡ true → ((x : ℕ) → o ≡ Some x → (x < 2 ^ 58) × (lawful p x ≡ true)) → Writable lawful (frame_or_station st (frame_message p o))
 turn_written lawful st p None ok is = station_written lawful st ok
 turn_written lawful st p (Some x) ok is = let k = is x refl in frame_written lawful p x k.0 k.1
 
-either_written : (lawful : Place → ℕ → Bool) (st : StationOf) (b : Bool) (x y : Option MessageType) → Writable lawful (frame_or_station st x) → Writable lawful (frame_or_station st y) → Writable lawful (frame_or_station st (cond b x y))
+either_written : (lawful : Place → ℕ → Bool) (st : Station) (b : Bool) (x y : Option MessageType) → Writable lawful (frame_or_station st x) → Writable lawful (frame_or_station st y) → Writable lawful (frame_or_station st (cond b x y))
 either_written lawful st true x y a b = a
 either_written lawful st false x y a b = b
 
-module _ {N T M U E V : Type 0} (f : Families N T M U E V) (st : StationOf) (h : List (Call (Head T U V))) where
+module _ {N T M U E V : Type 0} (f : Families N T M U E V) (st : Station) (h : List (Call (Head T U V))) where
   pub due_written : Laws f.name.meaning → Laws f.message.meaning → Laws f.alert.meaning → station_fits st ≡ true →
       LawfulRecords f.name.meaning f.name.setting (calls_at (name_place f) h) → LawfulRecords f.message.meaning f.message.setting (calls_at (message_place f) h) →
       LawfulRecords f.alert.meaning f.alert.setting (calls_at (alert_place f) h) → Writable (lawful_in f) (contents_due f st h)

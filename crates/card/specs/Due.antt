@@ -6,8 +6,6 @@ use Rattle.message.specs.declared.place.Place.{Place}
 use Rattle.message.specs.declared.place.Place.TheVariants.{Name, Message, Alert}
 use Rattle.message.specs.declared.message.Message.{Message as MessageType}
 use Rattle.message.specs.declared.message.Message.TheVariants.{StationId, ShortName, Frame}
-use Rattle.message.specs.declared.station.StationId.{StationId as Id}
-use Rattle.message.specs.declared.station.ShortName.{ShortName as Short}
 use Rattle.message.specs.Place.{place_with}
 use Rattle.message.specs.Station.{station_in_range, short_name_in_range}
 use Rattle.contents.specs.declared.contents.Contents.{Contents}
@@ -16,15 +14,11 @@ use Rattle.transport.specs.declared.head.Head.{Head}
 use Rattle.transport.specs.Families.{FamilyOf, Families, PlaceOf, name_place, message_place, alert_place}
 use Rattle.airing.specs.declared.stored.Stored.{Stored}
 use Rattle.airing.specs.Due.{answer_due, frame_drawn}
+use Rattle.card.specs.declared.station.Station.{Station}
 use Rattle.card.specs.Calls.{Call, turn_after, turn_of, own_record, calls_at}
 
--- What the card's own PDU says of the station.
-pub record StationOf : Type 0 where
-  pub id : Id
-  pub short_name : Short
-
 -- Whether all fields are in range.
-abbrev pub station_fits : StationOf → Bool
+abbrev pub station_fits : Station → Bool
 station_fits st = station_in_range st.id && short_name_in_range st.short_name
 
 -- Contents with these messages; bits 64 to 67 are zero.
@@ -32,7 +26,7 @@ abbrev pub contents_of : MessageType → Option MessageType → Contents
 contents_of first second = record { first = first; second = second; reserved = false; time_locked = false; pair = 0 }
 
 -- The station PDU: the short name, then the station ID.
-abbrev pub station_contents : StationOf → Contents
+abbrev pub station_contents : Station → Contents
 station_contents st = contents_of (ShortName st.short_name) (Some (StationId st.id))
 
 -- A frame as a message of its place.
@@ -51,12 +45,12 @@ frame_at_turn f h turn =
     (cond (turn == turn_of Message) (frame_at (message_place f) h) (cond (turn == turn_of Alert) (frame_at (alert_place f) h) None))
 
 -- The frame, or the station PDU where there is none.
-abbrev pub frame_or_station : StationOf → Option MessageType → Contents
+abbrev pub frame_or_station : Station → Option MessageType → Contents
 frame_or_station st None = station_contents st
 frame_or_station st (Some x) = contents_of x None
 
 -- The contents of the PDU that an accepted draw gives after h.
-abbrev pub contents_due : {N T M U E V : Type 0} → Families N T M U E V → StationOf → List (Call (Head T U V)) → Contents
+abbrev pub contents_due : {N T M U E V : Type 0} → Families N T M U E V → Station → List (Call (Head T U V)) → Contents
 contents_due f st h = frame_or_station st (frame_at_turn f h (turn_after h))
 
 -- The answer to a draw into a buffer of so many bytes.

@@ -7,11 +7,12 @@ use Rattle.transport.specs.Families.{Families, PlaceOf}
 use Rattle.airing.specs.Calls.{Call as PlaceCall, on_air}
 use Rattle.airing.specs.Due.{current_due, cut_of}
 use Rattle.airing.specs.Rounds.{Unbroken, with_frame, occurrences}
+use Rattle.card.specs.declared.station.Station.{Station}
 use Rattle.card.specs.Calls.{Call, store, withdraw, draw, accepted_draws, call_at, with_call, calls_at}
-use Rattle.card.specs.Due.{StationOf, contents_due}
+use Rattle.card.specs.Due.{contents_due}
 
 -- The frames of a place in the PDUs that the accepted draws since h gave.
-abbrev pub frames_drawn : {N T M U E V : Type 0} → Families N T M U E V → StationOf → Place → List (Call (Head T U V)) → List (Call (Head T U V)) → List ℕ
+abbrev pub frames_drawn : {N T M U E V : Type 0} → Families N T M U E V → Station → Place → List (Call (Head T U V)) → List (Call (Head T U V)) → List ℕ
 frames_drawn f st p h [] = []
 frames_drawn f st p h (store n r ∷ since) = frames_drawn f st p h since
 frames_drawn f st p h (withdraw n ∷ since) = frames_drawn f st p h since
@@ -36,5 +37,5 @@ pub record Round {S T R : Type 0} (p : PlaceOf S T R) (h : List (Call R)) : Type
   pub as_many : accepted_draws since ≡ 4 * length (cut_at p before)
 
 -- The PDUs drawn in the round hold each frame of the record exactly once.
-abbrev pub EachFrameOnce : {N T M U E V S X : Type 0} → Families N T M U E V → StationOf → (p : PlaceOf S X (Head T U V)) (h : List (Call (Head T U V))) → Round p h → Type 0
+abbrev pub EachFrameOnce : {N T M U E V S X : Type 0} → Families N T M U E V → Station → (p : PlaceOf S X (Head T U V)) (h : List (Call (Head T U V))) → Round p h → Type 0
 EachFrameOnce f st p h w = (i : ℕ) → i < length (cut_at p w.before) → occurrences (slice_index (cut_at p w.before) i) (frames_drawn f st p.place w.before w.since) ≡ 1

@@ -2,9 +2,9 @@
 mod calls;
 mod turns;
 
+use crate::station::Station;
 use airing::place::Place;
 use family::family::Family;
-use message::station::{ShortName, StationId};
 
 // Whose turn the next draw is.
 #[derive(Clone, Copy)]
@@ -17,8 +17,7 @@ enum Turn {
 
 #[derive(Drop)]
 pub struct Card<N: Family, M: Family, E: Family> {
-    station_id: StationId,
-    short_name: ShortName,
+    station: Station,
     name: Place<N>,
     message: Place<M>,
     alert: Place<E>,

@@ -2,3 +2,4 @@
 #![tactic(auto)]
 
 pub mod card;
+pub mod station;

@@ -1,10 +1,8 @@
 // The turns of a card: the station PDU and the three places, each in its turn.
-ghost use Rattle.std.specs.Prelude.{◌≡◌, ◌+◌, ◌%◌, List, [], ◌∷◌};
-ghost use Rattle.transport.specs.declared.head.Head.{Head};
-ghost use Rattle.transport.specs.Families.{families};
-ghost use Rattle.card.specs.Calls.{Call, draw};
-ghost use Rattle.card.specs.Due.{StationOf, contents_of, station_contents, frame_message, contents_due};
-ghost use Rattle.card.specs.Agrees.{Agrees, FrameTaken, turn_number};
+ghost use Rattle.std.specs.Prelude.{◌≡◌, ◌+◌, ◌%◌, ◌∷◌};
+ghost use Rattle.card.specs.Calls.{draw};
+ghost use Rattle.card.specs.Due.{contents_of, frame_or_station, frame_message, contents_due};
+ghost use Rattle.card.specs.Agrees.{Agrees, InEveryHistory, FrameTaken, turn_number};
 
 use crate::card::{Card, Turn};
 use contents::contents::Contents;
@@ -15,22 +13,19 @@ use message::place::Place;
 impl<N: Family, M: Family, E: Family> Card<N, M, E> {
     // What the next PDU says; the turn passes on.
     pub(super) fn next_contents(&mut self) -> Contents
-        ensures due { (n : N) (m : M) (e : E) (st : StationOf) (h : List (Call (Head N.Head M.Head E.Head))) → Agrees (families N.Family.meaning n M.Family.meaning m E.Family.meaning e) st h self.old → result ≡ contents_due (families N.Family.meaning n M.Family.meaning m E.Family.meaning e) st h }
-        ensures agrees { (n : N) (m : M) (e : E) (st : StationOf) (h : List (Call (Head N.Head M.Head E.Head))) → Agrees (families N.Family.meaning n M.Family.meaning m E.Family.meaning e) st h self.old → Agrees (families N.Family.meaning n M.Family.meaning m E.Family.meaning e) st (draw 10 ∷ h) self.new }
+        ensures due { InEveryHistory N.Family.meaning M.Family.meaning E.Family.meaning self.old (λ f st h. result ≡ contents_due f st h) }
+        ensures agrees { InEveryHistory N.Family.meaning M.Family.meaning E.Family.meaning self.old (λ f st h. Agrees f st (draw 10 ∷ h) self.new) }
     {
         let frame = self.next_frame();
-        self.pass_turn();
-        match frame {
-            Some(message) => contents_of(message, None),
-            None => self.station_contents(),
-        }
+        self.turn = self.turn.next();
+        self.contents_with(frame)
     }
 
     // The frame of the place whose turn it is, if a record is on air there.
     fn next_frame(&mut self) -> Option<Message>
-        ensures taken { (n : N) (m : M) (e : E) (st : StationOf) (h : List (Call (Head N.Head M.Head E.Head))) → Agrees (families N.Family.meaning n M.Family.meaning m E.Family.meaning e) st h self.old → FrameTaken (families N.Family.meaning n M.Family.meaning m E.Family.meaning e) h result self.new }
+        ensures taken { InEveryHistory N.Family.meaning M.Family.meaning E.Family.meaning self.old (λ f st h. FrameTaken f h result self.new) }
         ensures turn { self.new.turn ≡ self.old.turn }
-        ensures station { (self.new.station_id ≡ self.old.station_id) × (self.new.short_name ≡ self.old.short_name) }
+        ensures station { self.new.station ≡ self.old.station }
     {
         match self.turn {
             Turn::Station => None,
@@ -40,22 +35,17 @@ impl<N: Family, M: Family, E: Family> Card<N, M, E> {
         }
     }
 
-    fn pass_turn(&mut self)
-        ensures turn { turn_number self.new.turn ≡ (turn_number self.old.turn + 1) % 4 }
-        ensures station { (self.new.station_id ≡ self.old.station_id) × (self.new.short_name ≡ self.old.short_name) }
-        ensures places { (self.new.name ≡ self.old.name) × (self.new.message ≡ self.old.message) × (self.new.alert ≡ self.old.alert) }
+    // The frame, or the station PDU where there is none: the short name, then the station ID.
+    fn contents_with(&self, frame: Option<Message>) -> Contents
+        ensures { result ≡ frame_or_station self.now.station frame }
     {
-        self.turn = self.turn.next();
-    }
-
-    // The station PDU: the short name, then the station ID.
-    fn station_contents(&self) -> Contents
-        ensures { result ≡ station_contents (record { id = self.now.station_id; short_name = self.now.short_name }) }
-    {
-        contents_of(
-            Message::ShortName(self.short_name),
-            Some(Message::StationId(self.station_id)),
-        )
+        match frame {
+            Some(frame) => contents_of(frame, None),
+            None => contents_of(
+                Message::ShortName(self.station.short_name),
+                Some(Message::StationId(self.station.id)),
+            ),
+        }
     }
 }
 
@@ -76,10 +66,7 @@ impl Turn {
 fn frame_message(place: Place, frame: Option<Payload>) -> Option<Message>
     ensures { result ≡ frame_message place frame }
 {
-    match frame {
-        Some(frame) => Some(Message::Frame(place, frame)),
-        None => None,
-    }
+    frame.map(|frame| Message::Frame(place, frame))
 }
 
 // Contents with one or two messages; all other bits are zero.
