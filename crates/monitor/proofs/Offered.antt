@@ -1,5 +1,5 @@
 -- An offer, from what was read and heard of it.
-use Rattle.std.proofs.Common.{◌≡◌, ℕ, Bool, true, cond, List, Ok, Err, Result, sym, refl, ap, ◌∙◌, subst, inl, inr, arith}
+use Rattle.std.proofs.Common.{◌≡◌, ℕ, Bool, true, cond, List, Ok, Err, Result, sym, ap, ◌∙◌, subst, inl, inr, arith}
 use Rattle.std.proofs.lemmas.Bool.{and_parts, cases_Bool}
 use Rattle.pdu.specs.declared.refusal.Refusal.{Refusal}
 use Rattle.pdu.specs.declared.refusal.Refusal.TheVariants.{UnlawfulFrame}
@@ -8,13 +8,10 @@ use Rattle.message.proofs.Ranges.{then_parts}
 use Rattle.contents.specs.declared.contents.Contents.{Contents}
 use Rattle.contents.specs.Contents.{read_from}
 use Rattle.transport.specs.Transport.{message_lawful, second_lawful, contents_lawful, if_lawful, read_with}
-use Rattle.transport.specs.Families.{Families, families, lawful_in}
-use Rattle.station_information.specs.Hearings.{Hearing}
+use Rattle.transport.specs.Families.{Families, lawful_in}
 use Rattle.monitor.specs.declared.monitor.Monitor.{Monitor}
-use Rattle.monitor.specs.declared.answer.OfferAnswer.{OfferAnswer}
-use Rattle.monitor.specs.Calls.{Call, hearings, contents_heard}
-use Rattle.monitor.specs.Due.{message_answer}
-use Rattle.monitor.specs.Agrees.{Holds, Agrees, OfferedSo}
+use Rattle.monitor.specs.Calls.{Call}
+use Rattle.monitor.specs.Agrees.{Agrees, families_of}
 
 if_lawful_lem : (lawful : Place → ℕ → Bool) (d c : Contents) → if_lawful lawful d d ≡ Ok c → contents_lawful lawful c ≡ true
 if_lawful_lem lawful d c e =
@@ -29,24 +26,7 @@ read_lawful lawful bs c e =
     let parts = then_parts (read_from bs) (λ d. if_lawful lawful d d) c e in
     and_parts (message_lawful lawful c.first) (second_lawful lawful c.second) (if_lawful_lem lawful parts.0 c parts.2)
 
-module _ {N T M U E V : Type 0} (f : Families N T M U E V) where
+module _ {N T M U E V : Type 0} (f : Families N T M U E V) (h : List Call) (bs : List ℕ) where
   -- a monitor reads by the families that it agrees with
-  pub own_families : (k : List Hearing) (w : Monitor N M E T U V) → Holds f k w →
-      lawful_in (families f.name.meaning w.name.family f.message.meaning w.message.family f.alert.meaning w.alert.family) ≡ lawful_in f
-  own_families k w holds =
-      let a = holds.name_agrees.holds.family_is in
-      let b = holds.message_agrees.holds.family_is in
-      let c = holds.alert_agrees.holds.family_is in
-      ap (λ s. lawful_in (families f.name.meaning s f.message.meaning w.message.family f.alert.meaning w.alert.family)) a
-      ∙ ap (λ s. lawful_in (families f.name.meaning f.name.setting f.message.meaning s f.alert.meaning w.alert.family)) b
-      ∙ ap (λ s. lawful_in (families f.name.meaning f.name.setting f.message.meaning f.message.setting f.alert.meaning s)) c
-
-  module _ (h : List Call) (bs : List ℕ) where
-    abbrev k : List Hearing
-    k = hearings (lawful_in f) h
-
-    pub refused : (e : Refusal) (w : Monitor N M E T U V) → read_with (lawful_in f) bs ≡ Err e → Agrees f h w → OfferedSo f h bs (Err e) w
-    refused e w read holds = record { answer_is = rw read refl; agrees = rw read holds }
-
-    pub accepted : (c : Contents) (answer : OfferAnswer) (w : Monitor N M E T U V) → read_with (lawful_in f) bs ≡ Ok c → answer ≡ message_answer f k c.first → Holds f (contents_heard c k) w → OfferedSo f h bs (Ok answer) w
-    accepted c answer w read is holds = record { answer_is = rw read (ap Ok is); agrees = rw read holds }
+  pub own_families : (w : Monitor N M E T U V) → Agrees f h w → {r : Result Contents Refusal} → read_with (lawful_in (families_of f.name.meaning f.message.meaning f.alert.meaning w)) bs ≡ r → read_with (lawful_in f) bs ≡ r
+  own_families w holds read = rw (← holds.name_agrees.holds.family_is, ← holds.message_agrees.holds.family_is, ← holds.alert_agrees.holds.family_is) read

@@ -14,8 +14,6 @@ use Rattle.gatherer.specs.declared.answer.Answer.{Answer}
 use Rattle.gatherer.specs.Series.{missing_due}
 use Rattle.gatherer.specs.Due.{answer_due, fresh_due}
 use Rattle.station_information.specs.Hearings.{Hearing}
-use Rattle.monitor.specs.declared.answer.OfferAnswer.{OfferAnswer}
-use Rattle.monitor.specs.declared.answer.OfferAnswer.TheVariants.{NoFrame, Frame as FrameAnswer}
 use Rattle.monitor.specs.Calls.{Call, hearings, events_at}
 
 -- The answer that a place's family makes due to the frame x.
@@ -29,17 +27,17 @@ frame_answer f k Message x = answer_at f.message Message k x
 frame_answer f k Alert x = answer_at f.alert Alert k x
 
 -- The answer due to a message: a text frame answers by its place.
-abbrev pub message_answer : {N T M U E V : Type 0} → Families N T M U E V → List Hearing → MessageType → OfferAnswer
-message_answer f k (Frame p x) = FrameAnswer (frame_answer f k p x)
-message_answer f k (StationId s) = NoFrame
-message_answer f k (ShortName s) = NoFrame
-message_answer f k (Location h) = NoFrame
-message_answer f k (Service s) = NoFrame
-message_answer f k (Parameter q) = NoFrame
-message_answer f k (Universal x) = NoFrame
+abbrev pub message_answer : {N T M U E V : Type 0} → Families N T M U E V → List Hearing → MessageType → Option Answer
+message_answer f k (Frame p x) = Some (frame_answer f k p x)
+message_answer f k (StationId s) = None
+message_answer f k (ShortName s) = None
+message_answer f k (Location h) = None
+message_answer f k (Service s) = None
+message_answer f k (Parameter q) = None
+message_answer f k (Universal x) = None
 
 -- The answer due to an offer: that of its first message, since a frame fills the message area and is never one of two.
-abbrev pub offer_due : {N T M U E V : Type 0} → Families N T M U E V → List Call → List ℕ → Result OfferAnswer Refusal
+abbrev pub offer_due : {N T M U E V : Type 0} → Families N T M U E V → List Call → List ℕ → Result (Option Answer) Refusal
 offer_due f h bs = and_then (read_with (lawful_in f) bs) (λ c. Ok (message_answer f (hearings (lawful_in f) h) c.first))
 
 -- The fresh count of the place with a message number.

@@ -1,25 +1,12 @@
-// What came of an offer that was accepted.
+// The number of an answer.
 ghost use Rattle.std.specs.Prelude.{◌≡◌};
 ghost use Rattle.monitor.specs.Answers.{number_of};
 
 use gatherer::answer::Answer;
 
-#[derive(Clone, Copy)]
-pub enum OfferAnswer {
-    // The PDU has no frame of a text.
-    NoFrame,
-    // What came of its frame.
-    Frame(Answer),
-}
-
-impl OfferAnswer {
-    // The number under which the answer is known to programs.
-    pub fn number(self) -> u8
-        ensures { result ≡ number_of self }
-    {
-        match self {
-            OfferAnswer::NoFrame => 0,
-            OfferAnswer::Frame(answer) => answer.number(),
-        }
-    }
+// The number under which the answer to an offer is known to programs; a PDU with no frame has none.
+pub fn answer_number(answer: Option<Answer>) -> u8
+    ensures { result ≡ number_of answer }
+{
+    answer.map_or(0, |answer| answer.number())
 }

@@ -5,10 +5,9 @@ ghost use Rattle.gatherer.specs.Due.{refusal_in};
 ghost use Rattle.transport.specs.Transport.{message_lawful, read_with};
 ghost use Rattle.transport.specs.Families.{families, lawful_in};
 ghost use Rattle.station_information.specs.Hearings.{Hearing};
-ghost use Rattle.monitor.specs.Calls.{Call, forget};
-ghost use Rattle.monitor.specs.Agrees.{Holds, Agrees, HeardSo, OfferedSo};
+ghost use Rattle.monitor.specs.Calls.{forget};
+ghost use Rattle.monitor.specs.Agrees.{Holds, Agrees, families_of, InEveryHistory, HeardSo, OfferedSo};
 
-use crate::answer::OfferAnswer;
 use crate::monitor::Monitor;
 use contents::contents::Contents;
 use family::family::Family;
@@ -18,6 +17,7 @@ use message::message::Message;
 use message::place::Place;
 use pdu::refusal::Refusal;
 use station_information::information::StationInformation;
+use transport::families::Families;
 
 impl<N: Family, M: Family, E: Family> Monitor<N, M, E> {
     // A monitor that has heard nothing.
@@ -34,10 +34,10 @@ impl<N: Family, M: Family, E: Family> Monitor<N, M, E> {
 
     // Hears the PDU that the bytes are. They are refused as reading refuses them, an unlawful
     // frame last, and a refusal leaves everything as found.
-    pub fn offer(&mut self, bytes: &[u8]) -> Result<OfferAnswer, Refusal>
-        ensures refusal { refusal_in result ≡ refusal_in (read_with (lawful_in (families N.Family.meaning self.old.name.family M.Family.meaning self.old.message.family E.Family.meaning self.old.alert.family)) bytes.now) }
+    pub fn offer(&mut self, bytes: &[u8]) -> Result<Option<Answer>, Refusal>
+        ensures refusal { refusal_in result ≡ refusal_in (read_with (lawful_in (families_of N.Family.meaning M.Family.meaning E.Family.meaning self.old)) bytes.now) }
         ensures unchanged { (x : Refusal) → result ≡ Err x → self.new ≡ self.old }
-        ensures due { (n : N) (m : M) (e : E) (h : List Call) → Agrees (families N.Family.meaning n M.Family.meaning m E.Family.meaning e) h self.old → OfferedSo (families N.Family.meaning n M.Family.meaning m E.Family.meaning e) h bytes.now result self.new }
+        ensures due { InEveryHistory N.Family.meaning M.Family.meaning E.Family.meaning self.old (λ f h. OfferedSo f h bytes.now result self.new) }
     {
         let contents = self.read(bytes)?;
         let answer = self.hear(contents.first);
@@ -49,8 +49,8 @@ impl<N: Family, M: Family, E: Family> Monitor<N, M, E> {
 
     // Drops everything that was heard, and keeps the families.
     pub fn forget(&mut self)
-        ensures emptied { Agrees (families N.Family.meaning self.old.name.family M.Family.meaning self.old.message.family E.Family.meaning self.old.alert.family) [] self.new }
-        ensures agrees { (n : N) (m : M) (e : E) (h : List Call) → Agrees (families N.Family.meaning n M.Family.meaning m E.Family.meaning e) h self.old → Agrees (families N.Family.meaning n M.Family.meaning m E.Family.meaning e) (forget ∷ h) self.new }
+        ensures emptied { Agrees (families_of N.Family.meaning M.Family.meaning E.Family.meaning self.old) [] self.new }
+        ensures agrees { InEveryHistory N.Family.meaning M.Family.meaning E.Family.meaning self.old (λ f h. Agrees f (forget ∷ h) self.new) }
     {
         self.name.forget();
         self.message.forget();
@@ -60,36 +60,27 @@ impl<N: Family, M: Family, E: Family> Monitor<N, M, E> {
 
     // What the bytes say, by the families of the three places.
     fn read(&self, bytes: &[u8]) -> Result<Contents, Refusal>
-        ensures { result ≡ read_with (lawful_in (families N.Family.meaning self.now.name.family M.Family.meaning self.now.message.family E.Family.meaning self.now.alert.family)) bytes.now }
+        ensures { result ≡ read_with (lawful_in (families_of N.Family.meaning M.Family.meaning E.Family.meaning self.now)) bytes.now }
     {
-        transport::transport::read(
-            self.name.family(),
-            self.message.family(),
-            self.alert.family(),
-            bytes,
-        )
+        let families = Families {
+            name: self.name.family(),
+            message: self.message.family(),
+            alert: self.alert.family(),
+        };
+        families.read(bytes)
     }
 
-    // Hears one message of a PDU; a frame goes to its place.
-    fn hear(&mut self, message: Message) -> OfferAnswer
+    // Hears one message of a PDU; a frame goes to its place. One that was read is lawful, so it is
+    // not refused there.
+    fn hear(&mut self, message: Message) -> Option<Answer>
         ensures { (n : N) (m : M) (e : E) (k : List Hearing) → Holds (families N.Family.meaning n M.Family.meaning m E.Family.meaning e) k self.old → message_lawful (lawful_in (families N.Family.meaning n M.Family.meaning m E.Family.meaning e)) message ≡ true → HeardSo (families N.Family.meaning n M.Family.meaning m E.Family.meaning e) k message result self.new }
     {
         self.information.hear(message);
         match message {
-            Message::Frame(Place::Name, frame) => answer_to(self.name.offer(frame)),
-            Message::Frame(Place::Message, frame) => answer_to(self.message.offer(frame)),
-            Message::Frame(Place::Alert, frame) => answer_to(self.alert.offer(frame)),
-            _ => OfferAnswer::NoFrame,
+            Message::Frame(Place::Name, frame) => self.name.offer(frame).ok(),
+            Message::Frame(Place::Message, frame) => self.message.offer(frame).ok(),
+            Message::Frame(Place::Alert, frame) => self.alert.offer(frame).ok(),
+            _ => None,
         }
-    }
-}
-
-// The answer to a frame. One that was read is lawful, so it is not refused.
-fn answer_to(offered: Result<Answer, Refusal>) -> OfferAnswer
-    ensures { (a : Answer) → offered ≡ Ok a → result ≡ OfferAnswer.Frame a }
-{
-    match offered {
-        Ok(answer) => OfferAnswer::Frame(answer),
-        Err(_) => OfferAnswer::NoFrame,
     }
 }
