@@ -13,8 +13,9 @@ use Rattle.airing.specs.Calls.{Call as PlaceCall, withdrawn}
 use Rattle.airing.specs.Due.{frame_drawn}
 use Rattle.reception.specs.Runs as place
 use Rattle.reception.specs.Runs.{Step as PlaceStep, monitor_events, frame_last_drawn}
+use Rattle.card.specs.declared.station.Station.{Station}
 use Rattle.card.specs.Calls.{Call as CardCall, store, withdraw, draw, turn_after, turn_of, own_record, call_at, with_call, calls_at}
-use Rattle.card.specs.Due.{StationOf, frame_or_station, frame_at_turn, contents_due}
+use Rattle.card.specs.Due.{frame_or_station, frame_at_turn, contents_due}
 use Rattle.card.proofs.Projected.{store_skipped}
 use Rattle.monitor.specs.Calls.{offer, forget, hearings, offer_heard, then_heard, then_accepted, events_at}
 use Rattle.station_information.specs.Hearings.{Hearing, heard}
@@ -57,11 +58,11 @@ module _ {S X R : Type 0} (lawful : Place → ℕ → Bool) (p : PlaceOf S X R) 
   card_part (monitor (offer bs) ∷ a) = (with_offer p.place (read_with lawful bs) (steps_at lawful p a) (hearings lawful (monitor_calls a)) (monitor_part a)).0 ∙ card_part a
 
 -- a second message of a card's PDU is no frame
-no_second : {X : Type 0} (st : StationOf) (p : Place) (o : Option Message) (xs : List (PlaceStep X)) → with_second_step p (frame_or_station st o).second xs ≡ xs
+no_second : {X : Type 0} (st : Station) (p : Place) (o : Option Message) (xs : List (PlaceStep X)) → with_second_step p (frame_or_station st o).second xs ≡ xs
 no_second st p None xs = refl
 no_second st p (Some x) xs = refl
 
-module _ {N T M U E V S X : Type 0} (f : Families N T M U E V) (st : StationOf) (p : PlaceOf S X (Head T U V))
+module _ {N T M U E V S X : Type 0} (f : Families N T M U E V) (st : Station) (p : PlaceOf S X (Head T U V))
     (given : (h : List (CardCall (Head T U V))) → frame_in p.place (contents_due f st h).first ≡ cond (eqb (turn_after h) (turn_of p.place)) (frame_drawn p.family.meaning p.family.setting (calls_at p h)) None) where
   -- what the PDU drawn last holds for the place: the frame that its latest draw gave, and nothing else
   record Held (h : List (CardCall (Head T U V))) (c : Contents) : Type 0 where

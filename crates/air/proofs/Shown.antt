@@ -18,9 +18,10 @@ use Rattle.reception.specs.Order.{ShowsChanges}
 use Rattle.reception.proofs.Order.{shows_changes}
 use Rattle.reception.proofs.Few.{few_changes}
 use Rattle.reception.proofs.Arrival.{arrives}
+use Rattle.card.specs.declared.station.Station.{Station}
 use Rattle.card.specs.declared.card.Card.{Card}
 use Rattle.card.specs.Calls.{Call as CardCall, turn_after, turn_of, calls_at}
-use Rattle.card.specs.Due.{StationOf, contents_due}
+use Rattle.card.specs.Due.{contents_due}
 use Rattle.card.specs.Agrees.{Agrees}
 use Rattle.card.proofs.Rounding.{frame_of_turn}
 use Rattle.monitor.specs.Calls.{Call as MonitorCall, hearings}
@@ -29,7 +30,7 @@ use Rattle.air.specs.Runs.{Step, card_calls, Relayed}
 use Rattle.air.specs.Places.{steps_at, ShowsAt, ShowsTexts}
 use Rattle.air.proofs.Projected.{card_part, monitor_part, relayed_part}
 
-module _ {N T M U E V : Type 0} (f : Families N T M U E V) (st : StationOf) (a : List (Step (Head T U V))) where
+module _ {N T M U E V : Type 0} (f : Families N T M U E V) (st : Station) (a : List (Step (Head T U V))) where
   shows_at : {S X : Type 0} (p : PlaceOf S X (Head T U V)) → Laws p.family.meaning → LawfulRecords p.family.meaning p.family.setting (calls_at p (card_calls a)) →
       ((h : List (CardCall (Head T U V))) → frame_in p.place (contents_due f st h).first ≡ cond (eqb (turn_after h) (turn_of p.place)) (frame_drawn p.family.meaning p.family.setting (calls_at p h)) None) →
       Relayed f st a → ShowsAt f p a

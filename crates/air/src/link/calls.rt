@@ -1,23 +1,23 @@
 // The calls of both ends.
-ghost use Rattle.std.specs.Prelude.{◌≡◌, List, [], ◌∷◌, Err};
+ghost use Rattle.std.specs.Prelude.{◌≡◌, [], ◌∷◌, Err};
 ghost use Rattle.pdu.specs.declared.refusal.Refusal.{Refusal};
 ghost use Rattle.family.specs.Texts.{record_view};
-ghost use Rattle.transport.specs.declared.head.Head.{Head};
 ghost use Rattle.transport.specs.Families.{families};
+ghost use Rattle.card.specs.declared.station.Station.{Station};
 ghost use Rattle.card.specs.Calls.{withdraw};
-ghost use Rattle.card.specs.Due.{StationOf, withdraw_answer};
+ghost use Rattle.card.specs.Due.{withdraw_answer};
 ghost use Rattle.card.specs.Agrees.{Agrees as CardAgrees};
 ghost use Rattle.monitor.specs.Calls.{forget};
 ghost use Rattle.monitor.specs.Agrees.{Agrees as MonitorAgrees};
-ghost use Rattle.air.specs.Runs.{Step, card as card_step, monitor as monitor_step, monitor_calls};
-ghost use Rattle.air.specs.Linked.{Linked, StoredSo, DrawnSo, Heard, SpoiltSo};
+ghost use Rattle.air.specs.Runs.{card as card_step, monitor as monitor_step, monitor_calls};
+ghost use Rattle.air.specs.Linked.{Linked, InEveryHistory, StoredSo, DrawnSo, Heard, SpoiltSo};
 
 use crate::link::Link;
 use airing::stored::Stored;
 use card::card::Card;
 use family::family::Family;
 use family::text::Record;
-use monitor::answer::OfferAnswer;
+use gatherer::answer::Answer;
 use monitor::monitor::Monitor;
 use pdu::pdu::Pdu;
 use pdu::refusal::Refusal;
@@ -26,7 +26,7 @@ use transport::head::Head;
 impl<N: Family, M: Family, E: Family> Link<N, M, E> {
     // A new card and a new monitor; nothing was drawn.
     pub fn new(card: Card<N, M, E>, monitor: Monitor<N, M, E>) -> Link<N, M, E>
-        ensures { (n : N) (m : M) (e : E) (st : StationOf) → CardAgrees (families N.Family.meaning n M.Family.meaning m E.Family.meaning e) st [] card → MonitorAgrees (families N.Family.meaning n M.Family.meaning m E.Family.meaning e) [] monitor → Linked (families N.Family.meaning n M.Family.meaning m E.Family.meaning e) st [] result }
+        ensures { (n : N) (m : M) (e : E) (st : Station) → CardAgrees (families N.Family.meaning n M.Family.meaning m E.Family.meaning e) st [] card → MonitorAgrees (families N.Family.meaning n M.Family.meaning m E.Family.meaning e) [] monitor → Linked (families N.Family.meaning n M.Family.meaning m E.Family.meaning e) st [] result }
     {
         Link {
             card,
@@ -42,7 +42,7 @@ impl<N: Family, M: Family, E: Family> Link<N, M, E> {
         record: Record<Head<N::Head, M::Head, E::Head>>,
     ) -> Result<Stored, Refusal>
         ensures unchanged { (x : Refusal) → result ≡ Err x → self.new ≡ self.old }
-        ensures due { (n : N) (m : M) (e : E) (st : StationOf) (a : List (Step (Head N.Head M.Head E.Head))) → Linked (families N.Family.meaning n M.Family.meaning m E.Family.meaning e) st a self.old → StoredSo (families N.Family.meaning n M.Family.meaning m E.Family.meaning e) st a number (record_view «record») result self.new }
+        ensures due { InEveryHistory N.Family.meaning M.Family.meaning E.Family.meaning self.old (λ f st a. StoredSo f st a number (record_view «record») result self.new) }
     {
         self.card.store(number, record)
     }
@@ -51,14 +51,14 @@ impl<N: Family, M: Family, E: Family> Link<N, M, E> {
     pub fn withdraw(&mut self, number: u8) -> Result<(), Refusal>
         ensures answer { result ≡ withdraw_answer number }
         ensures unchanged { (x : Refusal) → result ≡ Err x → self.new ≡ self.old }
-        ensures linked { (n : N) (m : M) (e : E) (st : StationOf) (a : List (Step (Head N.Head M.Head E.Head))) → Linked (families N.Family.meaning n M.Family.meaning m E.Family.meaning e) st a self.old → Linked (families N.Family.meaning n M.Family.meaning m E.Family.meaning e) st (card_step (withdraw number) ∷ a) self.new }
+        ensures linked { InEveryHistory N.Family.meaning M.Family.meaning E.Family.meaning self.old (λ f st a. Linked f st (card_step (withdraw number) ∷ a) self.new) }
     {
         self.card.withdraw(number)
     }
 
     // Draws the card's next PDU.
     pub fn draw(&mut self) -> Result<Pdu, Refusal>
-        ensures { (n : N) (m : M) (e : E) (st : StationOf) (a : List (Step (Head N.Head M.Head E.Head))) → Linked (families N.Family.meaning n M.Family.meaning m E.Family.meaning e) st a self.old → DrawnSo (families N.Family.meaning n M.Family.meaning m E.Family.meaning e) st a result self.new }
+        ensures { InEveryHistory N.Family.meaning M.Family.meaning E.Family.meaning self.old (λ f st a. DrawnSo f st a result self.new) }
     {
         let mut bytes = [0; 10];
         self.card.draw(&mut bytes)?;
@@ -68,9 +68,9 @@ impl<N: Family, M: Family, E: Family> Link<N, M, E> {
     }
 
     // Offers the PDU drawn last to the monitor; refused where none was drawn.
-    pub fn hear(&mut self) -> Result<OfferAnswer, Refusal>
+    pub fn hear(&mut self) -> Result<Option<Answer>, Refusal>
         ensures unchanged { (x : Refusal) → result ≡ Err x → self.new ≡ self.old }
-        ensures due { (n : N) (m : M) (e : E) (st : StationOf) (a : List (Step (Head N.Head M.Head E.Head))) → Linked (families N.Family.meaning n M.Family.meaning m E.Family.meaning e) st a self.old → Heard (families N.Family.meaning n M.Family.meaning m E.Family.meaning e) st a self.old.pdu result self.new }
+        ensures due { InEveryHistory N.Family.meaning M.Family.meaning E.Family.meaning self.old (λ f st a. Heard f st a self.old.pdu result self.new) }
     {
         let Some(pdu) = self.pdu else {
             return Err(Refusal::NothingThere);
@@ -79,16 +79,16 @@ impl<N: Family, M: Family, E: Family> Link<N, M, E> {
     }
 
     // Offers other bytes to the monitor, as the air may have spoilt them.
-    pub fn hear_spoilt(&mut self, bytes: &[u8]) -> Result<OfferAnswer, Refusal>
+    pub fn hear_spoilt(&mut self, bytes: &[u8]) -> Result<Option<Answer>, Refusal>
         ensures unchanged { (x : Refusal) → result ≡ Err x → self.new ≡ self.old }
-        ensures due { (n : N) (m : M) (e : E) (st : StationOf) (a : List (Step (Head N.Head M.Head E.Head))) → Linked (families N.Family.meaning n M.Family.meaning m E.Family.meaning e) st a self.old → SpoiltSo (families N.Family.meaning n M.Family.meaning m E.Family.meaning e) st a bytes.now result self.new }
+        ensures due { InEveryHistory N.Family.meaning M.Family.meaning E.Family.meaning self.old (λ f st a. SpoiltSo f st a bytes.now result self.new) }
     {
         self.monitor.offer(bytes)
     }
 
     // Has the monitor forget everything.
     pub fn forget(&mut self)
-        ensures { (n : N) (m : M) (e : E) (st : StationOf) (a : List (Step (Head N.Head M.Head E.Head))) → Linked (families N.Family.meaning n M.Family.meaning m E.Family.meaning e) st a self.old → Linked (families N.Family.meaning n M.Family.meaning m E.Family.meaning e) st (monitor_step forget ∷ a) self.new }
+        ensures { InEveryHistory N.Family.meaning M.Family.meaning E.Family.meaning self.old (λ f st a. Linked f st (monitor_step forget ∷ a) self.new) }
     {
         self.monitor.forget();
     }
@@ -96,7 +96,7 @@ impl<N: Family, M: Family, E: Family> Link<N, M, E> {
     // The monitor, for its questions.
     pub fn monitor(&self) -> &Monitor<N, M, E>
         ensures same { result.now ≡ self.now.monitor }
-        ensures agrees { (n : N) (m : M) (e : E) (st : StationOf) (a : List (Step (Head N.Head M.Head E.Head))) → Linked (families N.Family.meaning n M.Family.meaning m E.Family.meaning e) st a self.now → MonitorAgrees (families N.Family.meaning n M.Family.meaning m E.Family.meaning e) (monitor_calls a) result.now }
+        ensures agrees { InEveryHistory N.Family.meaning M.Family.meaning E.Family.meaning self.now (λ f st a. MonitorAgrees f (monitor_calls a) result.now) }
     {
         &self.monitor
     }
