@@ -5,7 +5,7 @@ use Rattle.pdu.specs.declared.refusal.Refusal.TheVariants.{TextLength, HeadSetti
 use Rattle.layout.specs.declared.layout.FrameLayout.{FrameLayout}
 use Rattle.layout.specs.declared.layout.FrameFields.{FrameFields}
 use Rattle.layout.specs.Frames.{frame_count}
-use Rattle.layout.specs.Family.{FamilyLayout}
+use Rattle.family.specs.Family.{FamilyLayout}
 use Rattle.alert.specs.declared.alert.Alert.{Alert}
 use Rattle.alert.specs.declared.alert.AlertHead.{AlertHead}
 use Rattle.pdu.specs.Dividend.{text_remainder}

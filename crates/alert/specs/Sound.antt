@@ -5,9 +5,9 @@ use Rattle.std.proofs.lemmas.Bool.{and_from, and_parts, lt-ltb, ltb-true, leb-tr
 use Rattle.std.proofs.lemmas.Bool.Decides.{nat_tests}
 use Rattle.family.specs.Meaning.{RecordOf, Fit}
 use Rattle.layout.specs.Frames.{frame_count, FitLayout, FitFields}
-use Rattle.layout.specs.Family.{meaning_of}
+use Rattle.family.specs.Family.{meaning_of}
 use Rattle.layout.proofs.Reading.{first_read, later_read}
-use Rattle.layout.proofs.Laws.{SoundLayout, frame_in, count_of, cut_first, each}
+use Rattle.family.specs.Sound.{SoundLayout, frame_in, count_of, cut_first, each}
 use Rattle.alert.specs.declared.alert.Alert.{Alert}
 use Rattle.alert.specs.declared.alert.AlertHead.{AlertHead}
 use Rattle.alert.specs.Alert.{alert_layout, frame_layout, fields_of, alert_refusal, check_of, lawful_frame, lawful_head, lawful_length, number_in, sequence_in, reserved_in, head_in, length_in}

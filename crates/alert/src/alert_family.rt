@@ -1,25 +1,15 @@
 // The frames of an alert. Every frame begins with its number in 6 bits, its sequence number in 2 and 2 reserved bits. Frame 0 goes on with the encoding in 3 bits, the length in 9, the check in 7, the control length in 5 and three bytes; a later frame with six bytes.
-ghost use Rattle.std.specs.Prelude.{◌≡◌, length};
+ghost use Rattle.std.specs.Prelude.{◌≡◌, length, refl};
 ghost use Rattle.family.specs.Texts.{bytes_of};
-ghost use Rattle.layout.specs.Family.{meaning_of};
-ghost use Rattle.alert.specs.Alert.{alert_layout, lawful_head, lawful_length, alert_refusal, fields_of, check_of, number_in, sequence_in, reserved_in, head_in, length_in, last_in};
-ghost use Rattle.layout.proofs.Laws;
+ghost use Rattle.alert.specs.Alert.{frame_layout, alert_layout, lawful_head, lawful_length, alert_refusal, fields_of, check_of, reserved_in, length_in};
 ghost use Rattle.alert.specs.Sound.{sound};
 
 use crate::alert::{Alert, AlertHead};
-use family::family::{Family, Payload};
+use family::family_layout::FamilyLayout;
 use family::text::{Record, Text};
 use layout::frames::frame_or_zero;
-use layout::layout::{FrameFields, FrameLayout};
-use layout::refusing::{require, unless_refused};
+use layout::layout::{FrameFields, FrameLayout, Payload};
 use pdu::refusal::Refusal;
-
-const LAYOUT: FrameLayout = FrameLayout {
-    byte_bits: 8,
-    trailing_bits: 0,
-    first_bytes: 3,
-    later_bytes: 6,
-};
 
 // The longest alert.
 const LONGEST: usize = 381;
@@ -66,120 +56,79 @@ fn fields_of(alert: &Alert, head: AlertHead, text: &Text, sequence: u8) -> Frame
     }
 }
 
-fn number_in(frame: Payload) -> usize
-    ensures { result ≡ number_in frame }
-{
-    ((frame >> 52) % 64) as usize
-}
-
-fn sequence_in(frame: Payload) -> u8
-    ensures { result ≡ sequence_in frame }
-{
-    ((frame >> 50) % 4) as u8
-}
-
 fn reserved_in(frame: Payload) -> u64
     ensures { result ≡ reserved_in frame }
 {
     (frame >> 48) % 4
 }
 
-fn head_in(frame: Payload) -> AlertHead
-    ensures { result ≡ head_in frame }
-{
-    AlertHead {
-        encoding: ((frame >> 45) % 8) as u8,
-        control_length: ((frame >> 24) % 32) as u8,
-    }
-}
-
-fn length_in(frame: Payload) -> usize
+// The length that frame 0 tells.
+fn length_told(frame: Payload) -> usize
     ensures { result ≡ length_in frame }
 {
     ((frame >> 36) % 512) as usize
 }
 
-fn last_in(frame: Payload) -> usize
-    ensures { result ≡ last_in frame }
-{
-    LAYOUT.frame_count(length_in(frame)) - 1
-}
-
-impl Family for Alert {
+impl FamilyLayout for Alert {
     type Head = AlertHead;
 
     const MODULUS: u8 = 4;
 
-    ghost meaning = { meaning_of alert_layout };
+    const FRAME_LAYOUT: FrameLayout = FrameLayout {
+        byte_bits: 8,
+        trailing_bits: 0,
+        first_bytes: 3,
+        later_bytes: 6,
+    };
 
-    ghost keeps = { Laws.keeps alert_layout sound };
+    ghost MODULUS = { 4 };
 
-    fn sequence_numbers(&self) -> u8 {
-        Self::MODULUS
-    }
+    ghost FRAME_LAYOUT = { frame_layout };
 
-    fn refusal(&self, record: &Record<AlertHead>) -> Option<Refusal> {
+    ghost layout = { alert_layout };
+
+    ghost modulus_is = { refl };
+
+    ghost frame_layout_is = { refl };
+
+    ghost sound = { sound };
+
+    fn why_refused(&self, record: &Record<AlertHead>) -> Option<Refusal> {
         refusal_of(record.head, record.text.len)
     }
 
-    fn frame_count(&self, record: &Record<AlertHead>) -> Result<usize, Refusal> {
-        unless_refused(self.refusal(record))?;
-        Ok(LAYOUT.frame_count(record.text.len))
-    }
-
-    fn frame(
-        &self,
-        record: &Record<AlertHead>,
-        sequence: u8,
-        i: usize,
-    ) -> Result<Payload, Refusal> {
-        let count = self.frame_count(record)?;
-        if sequence >= Self::MODULUS || i >= count {
-            return Err(Refusal::OutOfRange);
-        }
-        let fields = fields_of(self, record.head, &record.text, sequence);
-        Ok(LAYOUT.frame(fields, &record.text, i))
-    }
-
-    fn is_lawful(&self, frame: Payload) -> bool {
+    fn accepts(&self, frame: Payload) -> bool {
         if frame >= 1 << 58 || reserved_in(frame) != 0 {
             return false;
         }
-        number_in(frame) != 0 || refusal_of(head_in(frame), length_in(frame)).is_none()
+        self.number_in(frame) != 0 || refusal_of(self.head_in(frame), length_told(frame)).is_none()
     }
 
-    fn number(&self, frame: Payload) -> Result<usize, Refusal> {
-        require(self.is_lawful(frame), Refusal::UnlawfulFrame)?;
-        Ok(number_in(frame))
+    fn number_in(&self, frame: Payload) -> usize {
+        ((frame >> 52) % 64) as usize
     }
 
-    fn sequence(&self, frame: Payload) -> Result<u8, Refusal> {
-        require(self.is_lawful(frame), Refusal::UnlawfulFrame)?;
-        Ok(sequence_in(frame))
+    fn sequence_in(&self, frame: Payload) -> u8 {
+        ((frame >> 50) % 4) as u8
     }
 
-    fn last_number(&self, frame: Payload) -> Result<usize, Refusal> {
-        require(
-            self.is_lawful(frame) && number_in(frame) == 0,
-            Refusal::UnlawfulFrame,
-        )?;
-        Ok(last_in(frame))
+    fn last_in(&self, frame: Payload) -> usize {
+        Self::FRAME_LAYOUT.frame_count(length_told(frame)) - 1
     }
 
-    fn join(&self, frames: &[Payload]) -> Option<Record<AlertHead>> {
-        let first = frame_or_zero(frames, 0);
-        let record = Record {
-            head: head_in(first),
-            text: LAYOUT.text_in(frames, length_in(first).min(LONGEST)),
-        };
-        if self.refusal(&record).is_some() {
-            return None;
+    fn head_in(&self, frame: Payload) -> AlertHead {
+        AlertHead {
+            encoding: ((frame >> 45) % 8) as u8,
+            control_length: ((frame >> 24) % 32) as u8,
         }
-        let fields = fields_of(self, record.head, &record.text, sequence_in(first));
-        if LAYOUT.is_cut(fields, &record.text, frames) {
-            Some(record)
-        } else {
-            None
-        }
+    }
+
+    // No more bytes are looked for than a text holds.
+    fn length_in(&self, frames: &[Payload]) -> usize {
+        length_told(frame_or_zero(frames, 0)).min(LONGEST)
+    }
+
+    fn fields(&self, record: &Record<AlertHead>, sequence: u8) -> FrameFields {
+        fields_of(self, record.head, &record.text, sequence)
     }
 }
