@@ -1,8 +1,9 @@
 -- What each call does to a place that agrees with its calls.
-use Rattle.std.proofs.Common.{◌≡◌, ℕ, ◌+◌, ◌%◌, ◌<◌, Bool, true, false, cond, List, [], ◌∷◌, length, get_or, Some, None, Ok, Option, sym, refl, ap, ◌∙◌, subst, inl, inr, mod-lt, arith}
+use Rattle.std.proofs.Common.{◌≡◌, ℕ, ◌+◌, ◌%◌, ◌<◌, Bool, true, false, cond, List, [], ◌∷◌, length, get_or, Some, None, Ok, Option, sym, refl, ap, ◌∙◌, subst, mod-lt, arith}
 use native.Mathlib.Nat.{zero-mod}
 use Rattle.std.specs.Result.{result_ok}
-use Rattle.std.proofs.lemmas.Bool.{lt-ltb, cases_Bool}
+use Rattle.std.proofs.lemmas.Bool.{lt-ltb}
+use Rattle.std.proofs.lemmas.Option.{cond_some}
 use Rattle.family.specs.Meaning.{Meaning, RecordOf, Laws, Fit, Bytes, count_due, frame_due}
 use Rattle.family.specs.Texts.{record_view}
 use Rattle.airing.specs.declared.place.Current.{Current}
@@ -11,7 +12,7 @@ use Rattle.airing.specs.declared.stored.Stored.{Stored}
 use Rattle.airing.specs.declared.stored.Stored.TheVariants.{Changed, Unchanged}
 use Rattle.airing.specs.Calls.{Call, stored, drawn, is_unequal_to, is_change, changes, on_air, frames_given}
 use Rattle.airing.specs.Due.{CurrentOf, sequence_after, current_after, current_due}
-use Rattle.airing.specs.Agrees.{Agrees, Accepted, Drawn, current_view, held_view}
+use Rattle.airing.specs.Agrees.{Agrees, Accepted, Drawn, current_view, held_view, aired_in, held_on_air, is_on_air}
 use Rattle.airing.specs.Steps.{record_of, replaced_by, accepted_after, advanced_in}
 use Rattle.airing.proofs.Turns.{successor_mod}
 use Rattle.airing.proofs.Changes.{next_sequence_lem, change_test, on_air_stands, stands_fit}
@@ -42,29 +43,23 @@ steps {S} {T} m s (r ∷ rs) n c e l =
     let there : P d = λ some. ap (λ (j : ℕ). Some (record { «record» = r; sequence = q; next = j })) (sym (successor_mod n (length xs) some)) in
     subst P is there l
 
--- what is on air is held, and the place is on air
-on_air_parts : {A : Type 0} (b : Bool) (o : Option A) (a : A) → cond b o None ≡ Some a → (b ≡ true) × (o ≡ Some a)
-on_air_parts true o a e = (refl, e)
-on_air_parts false o a e = absurd (let z : ◌≡◌ {A = ℕ} 0 1 = cc in omega arith)
+-- what is on air is held
+aired : {T : Type 0} (o : Option (Current T)) (c : Current T) → aired_in o ≡ Some c → (c.on_air ≡ true) × (o ≡ Some c)
+aired None c e = absurd (let z : ◌≡◌ {A = ℕ} 0 1 = cc in omega arith)
+aired (Some d) c e = let f = cond_some d.on_air d c e in (ap (λ v. v.on_air) (sym f.1) ∙ f.0, ap Some f.1)
+
+none_if_false : {A : Type 0} (b : Bool) (x : A) → cond b (Some x) None ≡ None → b ≡ false
+none_if_false true x e = absurd (let z : ◌≡◌ {A = ℕ} 0 1 = cc in omega arith)
+none_if_false false x e = refl
+
+not_aired : {T : Type 0} (o : Option (Current T)) → aired_in o ≡ None → held_on_air o ≡ false
+not_aired None e = refl
+not_aired (Some d) e = none_if_false d.on_air d e
 
 module _ {S T : Type 0} (m : Meaning S T) (s : S) (h : List (Call T)) (p : Place S T) (k : Agrees m s h p) where
-  -- a place on air holds a record
-  held_if_on_air : on_air h ≡ true → held_view p.current ≡ None → ⊥
-  held_if_on_air on e =
-      let st = on_air_stands m s h k.records_lawful on in
-      let f : None ≡ current_after m s (st.latest ∷ st.earlier) (frames_given h) = sym e ∙ k.current_is ∙ ap (λ cs. current_after m s cs (frames_given h)) st.changes_are in
-      let z : ◌≡◌ {A = ℕ} 0 1 = cc in omega arith
-
-  off_air : cond p.on_air p.current None ≡ None → on_air h ≡ false
-  off_air e =
-      elim (cases_Bool (on_air h)) [
-        | inl on ↦ absurd (held_if_on_air on (ap held_view (let f : p.current ≡ None = sym (rw (k.on_air_is ∙ on) refl) ∙ e in f)))
-        | inr off ↦ off
-      ]
-
-  pub nothing_drawn : (laws : Laws m) (x : Option ℕ) → x ≡ None → cond p.on_air p.current None ≡ None → Drawn m s h x p
+  pub nothing_drawn : (laws : Laws m) (x : Option ℕ) → x ≡ None → aired_in p.current ≡ None → Drawn m s h x p
   nothing_drawn laws x none e =
-      let off = off_air e in
+      let off : on_air h ≡ false = sym k.on_air_is ∙ not_aired p.current e in
       record {
         frame_is = rw off none;
         agrees = record { family_is = k.family_is; records_lawful = k.records_lawful; current_is = rw off k.current_is; on_air_is = k.on_air_is };
@@ -82,12 +77,12 @@ module _ {S T : Type 0} (m : Meaning S T) (s : S) (h : List (Call T)) (p : Place
       subst (λ v. Fits m s v) is (record { fit = fit; within = mod-lt (frames_given h) (omega arith) })
 
   -- the family refuses neither the count nor the next frame of what is on air
-  pub refused_none : (laws : Laws m) (v : Current T) → cond p.on_air p.current None ≡ Some v →
+  pub refused_none : (laws : Laws m) (v : Current T) → aired_in p.current ≡ Some v →
       (result_ok (count_due m p.family (record_view v.«record»)) ≡ None → ⊥) × (result_ok (frame_due m p.family (record_view v.«record») v.sequence v.next) ≡ None → ⊥)
   refused_none laws v e =
-      let a = on_air_parts p.on_air p.current v e in
+      let a = aired p.current v e in
       let c = current_view v in
-      let f = on_air_fits laws c (sym k.on_air_is ∙ a.0) (sym k.current_is ∙ ap held_view a.1) in (
+      let f = on_air_fits laws c (sym k.on_air_is ∙ ap held_on_air a.1 ∙ a.0) (sym k.current_is ∙ ap held_view a.1) in (
         (λ none. let is = ap (λ v. result_ok (count_due m v c.«record»)) k.family_is ∙ ap result_ok (count_due_lem m laws s c f) in let z : ◌≡◌ {A = ℕ} 0 1 = cc (none, is) in omega arith),
         (λ none. let is = ap (λ v. result_ok (frame_due m v c.«record» c.sequence c.next)) k.family_is ∙ ap result_ok (frame_due_lem m laws s c f) in let z : ◌≡◌ {A = ℕ} 0 1 = cc (none, is) in omega arith),
       )
@@ -101,7 +96,7 @@ module _ {S T : Type 0} (m : Meaning S T) (s : S) (h : List (Call T)) (p p' : Pl
   current_next laws r false e = rw e refl
 
   pub accepted : (laws : Laws m) (r : RecordOf T) (a : Stored) → m.refusal s r ≡ None → Bytes r.text → a ≡ cond (is_unequal_to (record_of (held_view p.current)) r) Changed Unchanged →
-      p'.family ≡ p.family → held_view p'.current ≡ accepted_after m.modulus (held_view p.current) r → p'.on_air ≡ true → Accepted m s h r (Ok a) p'
+      p'.family ≡ p.family → held_view p'.current ≡ accepted_after m.modulus (held_view p.current) r → is_on_air p' ≡ true → Accepted m s h r (Ok a) p'
   accepted laws r a lawful bytes answer family current on =
       let test : is_unequal_to (record_of (current_due m s h)) r ≡ is_change h r = change_test m s h r k.records_lawful in
       record {
@@ -115,13 +110,13 @@ module _ {S T : Type 0} (m : Meaning S T) (s : S) (h : List (Call T)) (p p' : Pl
       }
 
   -- v is on air, n the count that the family tells, and x the frame that it gives
-  pub drew : (laws : Laws m) (v : Current T) (n x : ℕ) → cond p.on_air p.current None ≡ Some v →
+  pub drew : (laws : Laws m) (v : Current T) (n x : ℕ) → aired_in p.current ≡ Some v →
       result_ok (count_due m p.family (record_view v.«record»)) ≡ Some n → result_ok (frame_due m p.family (record_view v.«record») v.sequence v.next) ≡ Some x →
-      p'.family ≡ p.family → held_view p'.current ≡ Some (advanced_in n (current_view v)) → p'.on_air ≡ p.on_air → Drawn m s h (Some x) p'
+      p'.family ≡ p.family → held_view p'.current ≡ Some (advanced_in n (current_view v)) → is_on_air p' ≡ v.on_air → Drawn m s h (Some x) p'
   drew laws v n x e count frame family stepped air =
-      let a = on_air_parts p.on_air p.current v e in
+      let a = aired p.current v e in
       let c = current_view v in
-      let on : on_air h ≡ true = sym k.on_air_is ∙ a.0 in
+      let on : on_air h ≡ true = sym k.on_air_is ∙ ap held_on_air a.1 ∙ a.0 in
       let due : current_due m s h ≡ Some c = sym k.current_is ∙ ap held_view a.1 in
       let f = on_air_fits m s h p k laws c on due in
       let xs = m.cut s c.«record» c.sequence in
@@ -134,7 +129,7 @@ module _ {S T : Type 0} (m : Meaning S T) (s : S) (h : List (Call T)) (p p' : Pl
           family_is = family ∙ k.family_is;
           records_lawful = k.records_lawful;
           current_is = rw on (stepped ∙ ap (λ (j : ℕ). Some (advanced_in j c)) length_is ∙ sym (steps m s (changes h) (frames_given h) c due (omega (arith, f.within))));
-          on_air_is = air ∙ k.on_air_is;
+          on_air_is = air ∙ a.0 ∙ sym on;
         };
         each_once = round m laws s (drawn ∷ h) k.records_lawful;
       }

@@ -12,11 +12,12 @@ struct Current<H> {
     sequence: u8,
     // The number of the frame that is drawn next.
     next: usize,
+    // Whether it is on air, or withdrawn.
+    on_air: bool,
 }
 
 #[derive(Drop)]
 pub struct Place<F: Family> {
     family: F,
     current: Option<Current<F::Head>>,
-    on_air: bool,
 }

@@ -1,12 +1,12 @@
 // The calls that change a place.
-ghost use Rattle.std.specs.Prelude.{◌≡◌, true, false, List, [], ◌∷◌, if◌then◌else◌, Some, None, Err};
+ghost use Rattle.std.specs.Prelude.{◌≡◌, true, false, [], ◌∷◌, if◌then◌else◌, Some, None, Err};
 ghost use Rattle.std.specs.Result.{result_ok};
 ghost use Rattle.pdu.specs.declared.refusal.Refusal.{Refusal};
 ghost use Rattle.family.specs.Meaning.{frame_due};
 ghost use Rattle.family.specs.Texts.{record_view};
-ghost use Rattle.airing.specs.Calls.{Call, withdrawn, is_unequal_to};
+ghost use Rattle.airing.specs.Calls.{withdrawn, is_unequal_to};
 ghost use Rattle.airing.specs.declared.stored.Stored.TheVariants.{Changed, Unchanged};
-ghost use Rattle.airing.specs.Agrees.{Agrees, Accepted, Drawn, current_view, held_view};
+ghost use Rattle.airing.specs.Agrees.{Agrees, InEveryHistory, Accepted, Drawn, current_view, held_view, is_on_air, aired_in};
 ghost use Rattle.airing.specs.Steps.{record_of, next_sequence, successor_in, replaced_by, accepted_after, advanced_in};
 
 use crate::place::{Current, Place};
@@ -23,7 +23,6 @@ impl<F: Family> Place<F> {
         Place {
             family,
             current: None,
-            on_air: false,
         }
     }
 
@@ -33,8 +32,9 @@ impl<F: Family> Place<F> {
     pub fn store(&mut self, record: Record<F::Head>) -> Result<Stored, Refusal>
         ensures refusal { (e : Refusal) → F.Family.meaning.refusal self.old.family (record_view «record») ≡ Some e → result ≡ Err e }
         ensures unchanged { (e : Refusal) → result ≡ Err e → self.new ≡ self.old }
-        ensures accepted { (s : F) (h : List (Call F.Head)) → Agrees F.Family.meaning s h self.old → F.Family.meaning.refusal s (record_view «record») ≡ None → Accepted F.Family.meaning s h (record_view «record») result self.new }
+        ensures accepted { InEveryHistory F.Family.meaning self.old (λ s h. F.Family.meaning.refusal s (record_view «record») ≡ None → Accepted F.Family.meaning s h (record_view «record») result self.new) }
     {
+        // Not `?`: the record is accepted where there is none.
         match self.family.refusal(&record) {
             Some(refusal) => Err(refusal),
             None => Ok(self.accept(record)),
@@ -43,16 +43,18 @@ impl<F: Family> Place<F> {
 
     // Takes the record off air, and keeps it.
     pub fn withdraw(&mut self)
-        ensures agrees { (s : F) (h : List (Call F.Head)) → Agrees F.Family.meaning s h self.old → Agrees F.Family.meaning s (withdrawn ∷ h) self.new }
-        ensures unchanged { self.old.on_air ≡ false → self.new ≡ self.old }
+        ensures agrees { InEveryHistory F.Family.meaning self.old (λ s h. Agrees F.Family.meaning s (withdrawn ∷ h) self.new) }
+        ensures unchanged { is_on_air self.old ≡ false → self.new ≡ self.old }
     {
-        self.on_air = false;
+        if let Some(current) = &mut self.current {
+            current.on_air = false;
+        }
     }
 
     // The next frame of the record on air, in rounds; none while no record is on air, and then
     // everything is as found.
     pub fn draw(&mut self) -> Option<Payload>
-        ensures drawn { (s : F) (h : List (Call F.Head)) → Agrees F.Family.meaning s h self.old → Drawn F.Family.meaning s h result self.new }
+        ensures drawn { InEveryHistory F.Family.meaning self.old (λ s h. Drawn F.Family.meaning s h result self.new) }
         ensures unchanged { result ≡ None → self.new ≡ self.old }
     {
         let current = self.record_on_air()?;
@@ -68,23 +70,17 @@ impl<F: Family> Place<F> {
         ensures answer { result ≡ (if is_unequal_to (record_of (held_view self.old.current)) (record_view «record») then Changed else Unchanged) }
         ensures family { self.new.family ≡ self.old.family }
         ensures current { held_view self.new.current ≡ accepted_after F.Family.meaning.modulus (held_view self.old.current) (record_view «record») }
-        ensures on_air { self.new.on_air ≡ true }
+        ensures on_air { is_on_air self.new ≡ true }
     {
-        if self.differs(&record) {
-            self.replace(record);
-            return Stored::Changed;
-        }
-        self.resume();
-        Stored::Unchanged
-    }
-
-    // Whether the record is unequal to the last, or the first.
-    fn differs(&self, record: &Record<F::Head>) -> bool
-        ensures { result ≡ is_unequal_to (record_of (held_view self.now.current)) (record_view «record».now) }
-    {
-        match &self.current {
-            Some(current) => !current.record.equals(record),
-            None => true,
+        match &mut self.current {
+            Some(current) if current.record.equals(&record) => {
+                current.on_air = true;
+                Stored::Unchanged
+            }
+            _ => {
+                self.replace(record);
+                Stored::Changed
+            }
         }
     }
 
@@ -92,44 +88,32 @@ impl<F: Family> Place<F> {
     fn next_sequence(&self) -> u8
         ensures { result ≡ next_sequence F.Family.meaning.modulus (held_view self.now.current) }
     {
-        match &self.current {
-            Some(current) => {
-                let count = self.family.sequence_numbers();
-                successor(usize::from(current.sequence), usize::from(count)) as u8
-            }
-            None => 0,
-        }
-    }
-
-    // Puts the last record on air as it was.
-    fn resume(&mut self)
-        ensures family { self.new.family ≡ self.old.family }
-        ensures current { self.new.current ≡ self.old.current }
-        ensures on_air { self.new.on_air ≡ true }
-    {
-        self.on_air = true;
+        self.current.as_ref().map_or(0, |current| {
+            let count = self.family.sequence_numbers();
+            successor(usize::from(current.sequence), usize::from(count)) as u8
+        })
     }
 
     // Puts another record on air, from its frame 0.
     fn replace(&mut self, record: Record<F::Head>)
         ensures family { self.new.family ≡ self.old.family }
         ensures current { held_view self.new.current ≡ Some (replaced_by F.Family.meaning.modulus (held_view self.old.current) (record_view «record»)) }
-        ensures on_air { self.new.on_air ≡ true }
+        ensures on_air { is_on_air self.new ≡ true }
     {
         let sequence = self.next_sequence();
         self.current = Some(Current {
             record,
             sequence,
             next: 0,
+            on_air: true,
         });
-        self.resume();
     }
 
     // What is on air.
     fn record_on_air(&self) -> Option<Current<F::Head>>
-        ensures { result ≡ (if self.now.on_air then self.now.current else None) }
+        ensures { result ≡ aired_in self.now.current }
     {
-        if self.on_air { self.current } else { None }
+        self.current.filter(|current| current.on_air)
     }
 
     // The next frame of a record.
@@ -145,12 +129,11 @@ impl<F: Family> Place<F> {
     fn advance(&mut self, current: Current<F::Head>, count: usize)
         ensures family { self.new.family ≡ self.old.family }
         ensures current { held_view self.new.current ≡ Some (advanced_in count (current_view current)) }
-        ensures on_air { self.new.on_air ≡ self.old.on_air }
+        ensures on_air { is_on_air self.new ≡ current.on_air }
     {
         self.current = Some(Current {
-            record: current.record,
-            sequence: current.sequence,
             next: successor(current.next, count),
+            ..current
         });
     }
 }
