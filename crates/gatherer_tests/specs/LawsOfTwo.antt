@@ -6,7 +6,8 @@ use Rattle.pdu.specs.declared.refusal.Refusal.{Refusal}
 use Rattle.pdu.specs.declared.refusal.Refusal.TheVariants.{TextLength, TextByte}
 use Rattle.family.specs.Meaning.{RecordOf, Fit, Laws}
 use Rattle.gatherer_tests.specs.declared.two.Two.{Two}
-use Rattle.gatherer_tests.specs.Two.{frame_of, flag, refusal_of_two, is_cut, joined_of_two, meaning_of_two}
+use Rattle.gatherer_tests.specs.Frames.{frame_of}
+use Rattle.gatherer_tests.specs.Two.{flag, refusal_of_two, is_cut, joined_of_two, meaning_of_two}
 
 none_then : (b : Bool) (x : Option Refusal) (e : Refusal) → cond b x (Some e) ≡ None → (b ≡ true) × (x ≡ None)
 none_then true x e h = (refl, h)

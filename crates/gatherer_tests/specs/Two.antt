@@ -1,13 +1,10 @@
 -- A family of two frames: frame 0 carries a flag as the head, and frame 1 the one byte of the text, which is not 0.
-use Rattle.std.specs.Prelude.{ℕ, ◌+◌, ◌*◌, ◌/◌, ◌%◌, Bool, cond, not, ◌&&◌, List, [], ◌∷◌, length, Some, None, Option, ◌==◌, nat_lt, slice_index}
+use Rattle.std.specs.Prelude.{ℕ, ◌+◌, ◌/◌, ◌%◌, Bool, cond, not, ◌&&◌, List, [], ◌∷◌, length, Some, None, Option, ◌==◌, nat_lt, slice_index}
 use Rattle.pdu.specs.declared.refusal.Refusal.{Refusal}
 use Rattle.pdu.specs.declared.refusal.Refusal.TheVariants.{TextLength, TextByte}
 use Rattle.family.specs.Meaning.{RecordOf, Meaning}
 use Rattle.gatherer_tests.specs.declared.two.Two.{Two}
-
--- A frame is its sequence number, its number and a byte.
-abbrev pub frame_of : ℕ → ℕ → ℕ → ℕ
-frame_of q i b = (q * 2 + i) * 256 + b
+use Rattle.gatherer_tests.specs.Frames.{frame_of}
 
 -- A flag as a byte.
 abbrev pub flag : Bool → ℕ

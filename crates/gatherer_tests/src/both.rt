@@ -1,7 +1,6 @@
 // A record that is heard whole, whatever the gatherer held before.
-ghost use Rattle.std.specs.Prelude.{◌≡◌, Bool, List, Ok};
-ghost use Rattle.gatherer.specs.Series.{Event};
-ghost use Rattle.gatherer.specs.Agrees.{Agrees};
+ghost use Rattle.std.specs.Prelude.{◌≡◌, Bool, Ok};
+ghost use Rattle.gatherer.specs.Agrees.{InEveryHistory};
 ghost use Rattle.gatherer_tests.specs.Two.{meaning_of_two};
 
 use crate::two::Two;
@@ -16,7 +15,7 @@ pub fn head_after_both(
     record: &Record<bool>,
     sequence: u8,
 ) -> Result<bool, Refusal>
-    ensures { (s : Two) (h : List Event) → Agrees meaning_of_two s h gatherer.old → (head : Bool) → result ≡ Ok head → head ≡ «record».now.head }
+    ensures { InEveryHistory meaning_of_two gatherer.old (λ s h. (head : Bool) → result ≡ Ok head → head ≡ «record».now.head) }
 {
     let first = Two.frame(record, sequence, 0)?;
     let second = Two.frame(record, sequence, 1)?;

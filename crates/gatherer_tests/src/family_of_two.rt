@@ -1,9 +1,11 @@
 // The family of two frames, by its meaning.
 ghost use Rattle.std.specs.Prelude.{◌≡◌};
-ghost use Rattle.gatherer_tests.specs.Two.{is_cut, meaning_of_two};
+ghost use Rattle.family.specs.Texts.{record_view};
+ghost use Rattle.std.specs.Result.{result_err};
+ghost use Rattle.gatherer_tests.specs.Two.{refusal_of_two, is_cut, meaning_of_two};
 ghost use Rattle.gatherer_tests.specs.LawsOfTwo;
 
-use crate::two::Two;
+use crate::two::{Two, frame_of};
 use family::family::{Family, Payload};
 use family::text::{Record, Text};
 use pdu::refusal::Refusal;
@@ -22,36 +24,25 @@ impl Family for Two {
     }
 
     fn refusal(&self, record: &Record<bool>) -> Option<Refusal> {
-        let text = record.text.as_slice();
-        if text.len() != 1 {
-            return Some(Refusal::TextLength);
-        }
-        if text[0] == 0 {
-            return Some(Refusal::TextByte);
-        }
-        None
+        checked(record).err()
     }
 
     fn frame_count(&self, record: &Record<bool>) -> Result<usize, Refusal> {
-        match self.refusal(record) {
-            Some(refusal) => Err(refusal),
-            None => Ok(2),
-        }
+        checked(record)?;
+        Ok(2)
     }
 
     fn frame(&self, record: &Record<bool>, sequence: u8, i: usize) -> Result<Payload, Refusal> {
-        if let Some(refusal) = self.refusal(record) {
-            return Err(refusal);
-        }
-        if sequence >= 4 || i >= 2 {
+        checked(record)?;
+        if sequence >= Self::MODULUS || i >= 2 {
             return Err(Refusal::OutOfRange);
         }
         let byte = if i == 0 {
-            u64::from(record.head)
+            u8::from(record.head)
         } else {
-            u64::from(record.text.as_slice()[0])
+            record.text.as_slice()[0]
         };
-        Ok((u64::from(sequence) * 2 + i as u64) * 256 + byte)
+        Ok(frame_of(sequence, i as u8, byte))
     }
 
     fn is_lawful(&self, frame: Payload) -> bool {
@@ -83,20 +74,28 @@ impl Family for Two {
     }
 
     fn join(&self, frames: &[Payload]) -> Option<Record<bool>> {
-        let [first, second] = frames else {
+        let [first, second] = *frames else {
             return None;
         };
-        let (first, second) = (*first, *second);
         if !are_a_cut(first, second) {
             return None;
         }
-        match Text::new(&[(second % 256) as u8]) {
-            Ok(text) => Some(Record {
-                head: first % 256 == 1,
-                text,
-            }),
-            Err(_) => None,
-        }
+        let text = Text::new(&[(second % 256) as u8]).ok()?;
+        Some(Record {
+            head: first % 256 == 1,
+            text,
+        })
+    }
+}
+
+// Refuses a record whose text is not one byte, and then one whose byte is 0.
+fn checked(record: &Record<bool>) -> Result<(), Refusal>
+    ensures { result_err result ≡ refusal_of_two (record_view «record».now) }
+{
+    match record.text.as_slice() {
+        [0] => Err(Refusal::TextByte),
+        [_] => Ok(()),
+        _ => Err(Refusal::TextLength),
     }
 }
 

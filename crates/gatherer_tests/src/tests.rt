@@ -1,6 +1,6 @@
 // Calls with their answers.
 use crate::both::head_after_both;
-use crate::two::Two;
+use crate::two::{Two, frame_of};
 use family::family::Family;
 use family::text::{Record, Text};
 use gatherer::answer::Answer;
@@ -8,16 +8,11 @@ use gatherer::gatherer::Gatherer;
 use pdu::refusal::Refusal;
 use std::test::Fail;
 
-// Frame i under a sequence number, with a byte.
-fn frame(sequence: u64, i: u64, byte: u64) -> u64 {
-    (sequence % 4 * 2 + i % 2) * 256 + byte % 256
-}
-
 #[test]
 fn shows_a_joined_record(rt: HostRuntime) -> Result<(), Fail> {
     let mut gatherer = Gatherer::new(Two);
-    assert_eq!(rt; gatherer.offer(frame(1, 1, 65))?, Answer::Incomplete);
-    assert_eq!(rt; gatherer.offer(frame(1, 0, 1))?, Answer::NewlyShown);
+    assert_eq!(rt; gatherer.offer(frame_of(1, 1, 65))?, Answer::Incomplete);
+    assert_eq!(rt; gatherer.offer(frame_of(1, 0, 1))?, Answer::NewlyShown);
     assert_eq!(rt; gatherer.shown_head()?, true);
     let mut buffer = [9, 9];
     assert_eq!(rt; gatherer.copy_text(&mut buffer)?, 1);
@@ -39,10 +34,10 @@ fn shows_nothing_before(rt: HostRuntime) {
 #[test]
 fn drops_frames_of_another_sequence_number(rt: HostRuntime) -> Result<(), Fail> {
     let mut gatherer = Gatherer::new(Two);
-    assert_eq!(rt; gatherer.offer(frame(0, 0, 1))?, Answer::Incomplete);
+    assert_eq!(rt; gatherer.offer(frame_of(0, 0, 1))?, Answer::Incomplete);
     assert_eq!(rt; gatherer.missing()?, 2);
-    assert_eq!(rt; gatherer.offer(frame(1, 1, 65))?, Answer::Incomplete);
-    assert_eq!(rt; gatherer.offer(frame(0, 1, 65))?, Answer::Incomplete);
+    assert_eq!(rt; gatherer.offer(frame_of(1, 1, 65))?, Answer::Incomplete);
+    assert_eq!(rt; gatherer.offer(frame_of(0, 1, 65))?, Answer::Incomplete);
     assert_eq!(rt; gatherer.shown_head(), Err(Refusal::NothingThere));
     Ok(())
 }
@@ -50,11 +45,11 @@ fn drops_frames_of_another_sequence_number(rt: HostRuntime) -> Result<(), Fail> 
 #[test]
 fn answers_repeats_and_counts(rt: HostRuntime) -> Result<(), Fail> {
     let mut gatherer = Gatherer::new(Two);
-    assert_eq!(rt; gatherer.offer(frame(2, 0, 1))?, Answer::Incomplete);
-    assert_eq!(rt; gatherer.offer(frame(2, 1, 65))?, Answer::NewlyShown);
-    assert_eq!(rt; gatherer.offer(frame(2, 1, 65))?, Answer::ShownBefore);
-    assert_eq!(rt; gatherer.offer(frame(2, 1, 0))?, Answer::DoesNotJoin);
-    assert_eq!(rt; gatherer.offer(frame(2, 1, 66))?, Answer::NewlyShown);
+    assert_eq!(rt; gatherer.offer(frame_of(2, 0, 1))?, Answer::Incomplete);
+    assert_eq!(rt; gatherer.offer(frame_of(2, 1, 65))?, Answer::NewlyShown);
+    assert_eq!(rt; gatherer.offer(frame_of(2, 1, 65))?, Answer::ShownBefore);
+    assert_eq!(rt; gatherer.offer(frame_of(2, 1, 0))?, Answer::DoesNotJoin);
+    assert_eq!(rt; gatherer.offer(frame_of(2, 1, 66))?, Answer::NewlyShown);
     assert_eq!(rt; gatherer.fresh_count(), 2);
     Ok(())
 }
@@ -62,9 +57,9 @@ fn answers_repeats_and_counts(rt: HostRuntime) -> Result<(), Fail> {
 #[test]
 fn refuses_and_forgets(rt: HostRuntime) -> Result<(), Fail> {
     let mut gatherer = Gatherer::new(Two);
-    assert_eq!(rt; gatherer.offer(frame(3, 0, 0))?, Answer::Incomplete);
+    assert_eq!(rt; gatherer.offer(frame_of(3, 0, 0))?, Answer::Incomplete);
     assert_eq!(rt; gatherer.offer(2048), Err(Refusal::UnlawfulFrame));
-    assert_eq!(rt; gatherer.offer(frame(3, 1, 65))?.number(), 2);
+    assert_eq!(rt; u8::from(gatherer.offer(frame_of(3, 1, 65))?), 2);
     let mut buffer = [];
     assert_eq!(rt; gatherer.copy_text(&mut buffer), Err(Refusal::BufferShort));
     gatherer.forget();
@@ -75,7 +70,7 @@ fn refuses_and_forgets(rt: HostRuntime) -> Result<(), Fail> {
 #[test]
 fn hears_a_record_after_anything(rt: HostRuntime) -> Result<(), Fail> {
     let mut gatherer = Gatherer::new(Two);
-    assert_eq!(rt; gatherer.offer(frame(1, 0, 0))?, Answer::Incomplete);
+    assert_eq!(rt; gatherer.offer(frame_of(1, 0, 0))?, Answer::Incomplete);
     let record = Record {
         head: true,
         text: Text::new(&[65])?,
