@@ -1,6 +1,6 @@
 -- Payloads fit the sizes of their messages.
-use Rattle.std.proofs.Common.{◌≡◌, ℕ, ◌+◌, ◌^◌, ◌<◌, ◌≤◌, Bool, true, false, cond, ◌&&◌, eqb, ltb, List, length, Some, None, Ok, Err, Option, Result, sym, refl, ap, ◌∙◌, subst, ⊎_elim, arith}
-use Rattle.std.proofs.lemmas.Bool.{ltb-true, ltb-false, cond-true, cond-false, cases_Bool}
+use Rattle.std.proofs.Common.{◌≡◌, ℕ, ◌+◌, ◌-◌, ◌^◌, ◌<◌, ◌≤◌, Bool, true, false, cond, ◌&&◌, eqb, ltb, List, length, Some, None, Ok, Err, Option, Result, sym, refl, ap, ◌∙◌, subst, ⊎_elim, arith}
+use Rattle.std.proofs.lemmas.Bool.{le-ltb, ltb-true, ltb-false, cond-true, cond-false, cases_Bool}
 use Rattle.pdu.specs.declared.refusal.Refusal.{Refusal}
 use Rattle.pdu.specs.declared.refusal.Refusal.TheVariants.{NotTenBytes, ReservedMessage, PayloadsTooLong, OutOfRange}
 use Rattle.pdu.specs.declared.pdu.Pdu.{Pdu}
@@ -10,7 +10,10 @@ use Rattle.message.specs.declared.message.Message.TheVariants.{StationId, ShortN
 use Rattle.message.specs.declared.place.Place.TheVariants.{Name, Message as PlaceMessage, Alert}
 use Rattle.message.specs.Message.{size_of, number_of, message_of, parsed}
 use Rattle.message.proofs.Ranges.{refused, then_parts}
-use Rattle.contents.specs.Area.{size_due, first_size, second_size}
+use Rattle.std.proofs.lemmas.Bool.Decides.{nat_tests}
+use Rattle.message.specs.Results.{and_then}
+use Rattle.message.proofs.Sizes.{size_small}
+use Rattle.contents.specs.Area.{size_due, size_within, first_size, second_size}
 
 -- a test that refuses
 pub unless_refused : {A : Type 0} (b : Bool) (x : Refusal) (a y : A) → cond b (Err x) (Ok a) ≡ Ok y → (b ≡ false) × (a ≡ y)
@@ -20,6 +23,24 @@ unless_refused false x a y e = (refl, cc)
 size_due_lem : (o : Option ℕ) (size : ℕ) → ◌≡◌ {A = Result ℕ Refusal} (elim o [ Some s ↦ Ok s | None ↦ Err ReservedMessage ]) (Ok size) → o ≡ Some size
 size_due_lem None size e = refused ReservedMessage size e
 size_due_lem (Some s) size e = cc
+
+-- two tests of a size that agree
+same_tests : (r : Result ℕ Refusal) (f g : ℕ → Result ℕ Refusal) → ((s : ℕ) → r ≡ Ok s → f s ≡ g s) → and_then r f ≡ and_then r g
+same_tests (Ok s) f g h = h s refl
+same_tests (Err x) f g h = refl
+
+-- the room for the first message is the whole area, or what the second one's number leaves of it
+pub first_within : (extension : Bool) (n : ℕ) → size_within (cond extension 54 58) n ≡ first_size extension n
+first_within true n = refl
+first_within false n = same_tests (size_due n) (λ s. cond (ltb 58 s) (Err PayloadsTooLong) (Ok s)) (λ s. Ok s) (λ s e.
+    let small = size_small n s (size_due_lem (size_of n) s e) in
+    cond-false (ltb 58 s) (Err PayloadsTooLong) (Ok s) (le-ltb 58 s small))
+
+-- the room for the second message is what the first one leaves
+pub second_within : (first n : ℕ) → first ≤ 54 → size_within (54 - first) n ≡ second_size first n
+second_within first n h = same_tests (size_due n) (λ s. cond (ltb (54 - first) s) (Err PayloadsTooLong) (Ok s)) (λ s. cond (ltb 54 (first + s)) (Err PayloadsTooLong) (Ok s)) (λ s e.
+    let same : ltb (54 - first) s ≡ ltb 54 (first + s) = grind (arith, nat_tests) in
+    ap (λ b. cond b (Err PayloadsTooLong) (Ok s)) same)
 
 pub first_parts : (extension : Bool) (n size : ℕ) → first_size extension n ≡ Ok size → (size_of n ≡ Some size) × ((extension && ltb 54 size) ≡ false)
 first_parts extension n size e =

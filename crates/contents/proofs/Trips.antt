@@ -1,5 +1,5 @@
 -- Contents written and read, and read and written.
-use Rattle.std.proofs.Common.{◌≡◌, ℕ, ◌+◌, ◌-◌, ◌^◌, ◌<◌, true, false, cond, eqb, Some, None, Ok, Err, Result, sym, ap, ◌∙◌, subst, ap₂, ⊎_elim, arith, pow_pos}
+use Rattle.std.proofs.Common.{◌≡◌, ℕ, ◌+◌, ◌-◌, ◌^◌, ◌<◌, ◌≤◌, true, false, cond, eqb, Some, None, Ok, Err, Result, sym, ap, ◌∙◌, subst, ap₂, ⊎_elim, arith, pow_pos}
 use Rattle.std.proofs.lemmas.Bool.{eqb-true, cond-true, cond-false, cases_Bool}
 use Rattle.pdu.specs.declared.refusal.Refusal.{Refusal}
 use Rattle.pdu.specs.declared.refusal.Refusal.TheVariants.{LeftoverBitSet}
@@ -10,10 +10,10 @@ use Rattle.message.specs.Results.{and_then}
 use Rattle.message.proofs.Ranges.{refused, then_ok, then_parts}
 use Rattle.message.proofs.Messages.{written_again}
 use Rattle.contents.specs.declared.contents.Contents.{Contents}
-use Rattle.contents.specs.Area.{upper, lower, joined, first_size, second_size}
-use Rattle.contents.specs.Contents.{if_nothing_left, contents_with, one_message, second_message, two_messages, contents_of, fields_with, fields_of, with_second}
+use Rattle.contents.specs.Area.{upper, lower, joined, size_within, first_size, second_size}
+use Rattle.contents.specs.Contents.{if_nothing_left, contents_with, one_message, both_messages, second_message, two_messages, contents_of, fields_with, two_written, fields_of, with_second}
 use Rattle.contents.proofs.Areas.{joined_small, upper_joined, lower_joined, joined_again}
-use Rattle.contents.proofs.Fitting.{first_parts, second_parts, payload_small}
+use Rattle.contents.proofs.Fitting.{second_within, first_parts, second_parts, payload_small}
 
 -- nothing is left over
 nothing_left : {A : Type 0} (leftover : ℕ) (x : A) → leftover ≡ 0 → if_nothing_left leftover x ≡ Ok x
@@ -70,6 +70,17 @@ two_read c second size second-size p q s t four e g =
     ∙ then_ok (parsed n (upper w tail)) second (ending c.first) (ap (parsed n) (upper_joined q w 0 (pow_pos w)) ∙ g)
     ∙ nothing_left (lower w tail) (contents_with f c.first (Some second)) (lower_joined q w 0 (pow_pos w))
 
+-- Two messages that are taken from the area one after the other.
+pub two_taken : (f : Fields) (size payload bits width : ℕ) → f.extension ≡ true → first_size f.extension f.number ≡ Ok size → size ≤ 54
+    → payload ≡ upper (58 - size) f.area → bits ≡ lower (58 - size) f.area → width ≡ 54 - size
+    → both_messages f payload (upper width bits) width (lower width bits) (size_within width (upper width bits)) ≡ contents_of f
+two_taken f size payload bits width ext s short p b w =
+    let n = upper (54 - size) (lower (58 - size) f.area) in
+    (λ i. both_messages f (p i) (upper (w i) (b i)) (w i) (lower (w i) (b i)) (size_within (w i) (upper (w i) (b i))))
+    ∙ ap (both_messages f (upper (58 - size) f.area) n (54 - size) (lower (54 - size) (lower (58 - size) f.area))) (second_within size n short)
+    ∙ sym (cond-true f.extension (two_messages f size) (one_message f size) ext)
+    ∙ sym (then_ok (first_size f.extension f.number) size (λ size. cond f.extension (two_messages f size) (one_message f size)) s)
+
 -- One message that was read is written.
 one_written_lem : (f : Fields) (size : ℕ) (c : Contents) → f.extension ≡ false → first_size f.extension f.number ≡ Ok size → one_message f size ≡ Ok c → fields_of c ≡ Ok f
 one_written_lem f size c ext s e =
@@ -87,6 +98,17 @@ one_written_lem f size c ext s e =
     let after_size : ℕ → Result Fields Refusal = λ k. and_then (payload_of m) (λ payload. Ok (fields_with d false (joined payload (58 - k) 0))) in
     ap fields_of (sym left.1) ∙ then_ok (first_size false (number_of m)) size after_size size_is
     ∙ then_ok (payload_of m) p (λ payload. Ok (fields_with d false (joined payload w 0))) again.1 ∙ ap Ok fields
+
+-- What two messages with payloads are written to.
+pub two_written_is : (c : Contents) (second : Message) (size second-size p q : ℕ) → first_size true (number_of c.first) ≡ Ok size → second_size size (number_of second) ≡ Ok second-size
+    → payload_of c.first ≡ Ok p → payload_of second ≡ Ok q
+    → two_written c second ≡ Ok (fields_with c true (joined p (58 - size) (joined (number_of second) (54 - size) (joined q (54 - size - second-size) 0))))
+two_written_is c second size second-size p q s t e g =
+    let written : ℕ → ℕ → ℕ → ℕ → Result Fields Refusal = λ i j x y. Ok (fields_with c true (joined x (58 - i) (joined (number_of second) (54 - i) (joined y (54 - i - j) 0)))) in
+    then_ok (first_size true (number_of c.first)) size (λ i. and_then (second_size i (number_of second)) (λ j. and_then (payload_of c.first) (λ x. and_then (payload_of second) (written i j x)))) s
+    ∙ then_ok (second_size size (number_of second)) second-size (λ j. and_then (payload_of c.first) (λ x. and_then (payload_of second) (written size j x))) t
+    ∙ then_ok (payload_of c.first) p (λ x. and_then (payload_of second) (written size second-size x)) e
+    ∙ then_ok (payload_of second) q (written size second-size p) g
 
 -- Two messages that were read are written.
 two_written_lem : (f : Fields) (size : ℕ) (c : Contents) → f.extension ≡ true → first_size f.extension f.number ≡ Ok size → two_messages f size ≡ Ok c → fields_of c ≡ Ok f
@@ -116,14 +138,7 @@ two_written_lem f size c ext s e =
     λ i. record { extension = sym ext i; number = number i; area = area i; reserved = f.reserved; time_locked = f.time_locked; pair = f.pair } in
     let size_is : first_size true (number_of a) ≡ Ok size = ap₂ first_size (sym ext) again.0 ∙ s in
     let second_is : second_size size (number_of b) ≡ Ok k = ap (second_size size) again_second.0 ∙ sized.1 in
-    let after_payload : ℕ → Result Fields Refusal = λ x. and_then (payload_of b) (λ y. Ok (fields_with d true (joined x w (joined (number_of b) (54 - size) (joined y v 0))))) in
-    let after_second : ℕ → Result Fields Refusal = λ j. and_then (payload_of a) (λ x. and_then (payload_of b) (λ y. Ok (fields_with d true (joined x w (joined (number_of b) (54 - size) (joined y (54 - size - j) 0)))))) in
-    let after_first : ℕ → Result Fields Refusal = λ i. and_then (second_size i (number_of b)) (λ j. and_then (payload_of a) (λ x. and_then (payload_of b) (λ y. Ok (fields_with d true (joined x (58 - i) (joined (number_of b) (54 - i) (joined y (54 - i - j) 0))))))) in
-    ap fields_of (sym left.1) ∙ then_ok (first_size true (number_of a)) size after_first size_is
-    ∙ then_ok (second_size size (number_of b)) k after_second second_is
-    ∙ then_ok (payload_of a) p after_payload again.1
-    ∙ then_ok (payload_of b) q (λ y. Ok (fields_with d true (joined p w (joined (number_of b) (54 - size) (joined y v 0))))) again_second.1
-    ∙ ap Ok fields
+    ap fields_of (sym left.1) ∙ two_written_is d b size k p q size_is second_is again.1 again_second.1 ∙ ap Ok fields
 
 -- Fields that were read to contents are written again.
 pub fields_again : (f : Fields) (c : Contents) → contents_of f ≡ Ok c → fields_of c ≡ Ok f

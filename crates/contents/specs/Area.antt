@@ -20,6 +20,10 @@ joined first width area = first * 2 ^ width + area
 abbrev pub size_due : ℕ → Result ℕ Refusal
 size_due n = elim (size_of n) [ Some size ↦ Ok size | None ↦ Err ReservedMessage ]
 
+-- The payload size of a message for which there is so much room.
+abbrev pub size_within : ℕ → ℕ → Result ℕ Refusal
+size_within room n = and_then (size_due n) (λ size. cond (nat_lt room size) (Err PayloadsTooLong) (Ok size))
+
 -- The payload size of the first message: with extension 1 it has at most 54 bits.
 abbrev pub first_size : Bool → ℕ → Result ℕ Refusal
 first_size extension n = and_then (size_due n) (λ size. cond (extension && nat_lt 54 size) (Err PayloadsTooLong) (Ok size))

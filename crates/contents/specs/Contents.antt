@@ -26,13 +26,17 @@ one_message f size =
     and_then (parsed f.number (upper (58 - size) f.area))
     (λ first. if_nothing_left (lower (58 - size) f.area) (contents_with f first None))
 
--- Two messages, once the second one's number is known: behind it its payload, and the rest is left over.
+-- Two messages by the first payload and the second number, behind which there are so many bits: first the second payload, if its size is not refused, and the rest is left over.
+abbrev pub both_messages : Fields → ℕ → ℕ → ℕ → ℕ → Result ℕ Refusal → Result Contents Refusal
+both_messages f payload number width area sized =
+    and_then sized
+    (λ size. and_then (parsed f.number payload)
+    (λ first. and_then (parsed number (upper (width - size) area))
+    (λ second. if_nothing_left (lower (width - size) area) (contents_with f first (Some second)))))
+
+-- Two messages, once the second one's number is known.
 abbrev pub second_message : Fields → ℕ → ℕ → ℕ → Result Contents Refusal
-second_message f size number area =
-    and_then (second_size size number)
-    (λ second-size. and_then (parsed f.number (upper (58 - size) f.area))
-    (λ first. and_then (parsed number (upper (54 - size - second-size) area))
-    (λ second. if_nothing_left (lower (54 - size - second-size) area) (contents_with f first (Some second)))))
+second_message f size number area = both_messages f (upper (58 - size) f.area) number (54 - size) area (second_size size number)
 
 abbrev pub two_messages : Fields → ℕ → Result Contents Refusal
 two_messages f size =

@@ -1,9 +1,9 @@
 // Contents read from the fields of a PDU.
 ghost use Rattle.std.specs.Prelude.{◌≡◌, ℕ, ◌+◌, ◌-◌, ◌^◌, ◌<◌, ◌≤◌, true, false};
-ghost use Rattle.contents.specs.Area.{upper, lower};
-ghost use Rattle.contents.specs.Contents.{contents_of, one_message, two_messages, second_message, contents_with, if_nothing_left};
+ghost use Rattle.contents.specs.Area.{upper, lower, size_within};
+ghost use Rattle.contents.specs.Contents.{contents_of, both_messages, contents_with, if_nothing_left};
 
-use crate::area::{first_size, second_size, split};
+use crate::area::{Area, first_size, size_within};
 use crate::contents::Contents;
 use message::message::Message;
 use pdu::fields::Fields;
@@ -38,42 +38,31 @@ impl Contents {
         requires { fields.area < 2 ^ 58 }
         ensures { result ≡ contents_of fields }
     {
+        let area = Area {
+            bits: fields.area,
+            width: 58,
+        };
         let size = first_size(fields.extension, fields.number)?;
+        let (payload, rest) = area.split(size);
         if fields.extension {
-            Contents::two_messages(fields, size)
-        } else {
-            Contents::one_message(fields, size)
+            return Contents::two_messages(fields, payload, rest);
         }
-    }
-
-    fn one_message(fields: Fields, size: u32) -> Result<Contents, Refusal>
-        requires { (fields.area < 2 ^ 58) × (size ≤ 58) }
-        ensures { result ≡ one_message fields size }
-    {
-        let (payload, leftover) = split(fields.area, 58, size);
         let first = Message::parse(fields.number, payload)?;
-        Contents::with(fields, first, None).if_nothing_left(leftover)
+        Contents::with(fields, first, None).if_nothing_left(rest.bits)
     }
 
-    fn two_messages(fields: Fields, size: u32) -> Result<Contents, Refusal>
-        requires { (fields.area < 2 ^ 58) × (size ≤ 54) }
-        ensures { result ≡ two_messages fields size }
+    // Behind the first payload stand the second message's number and its payload.
+    fn two_messages(fields: Fields, payload: u64, rest: Area) -> Result<Contents, Refusal>
+        requires { 4 ≤ rest.width }
+        ensures { let room = rest.width - 4 in let number = upper room rest.bits in
+            result ≡ both_messages fields payload number room (lower room rest.bits) (size_within room number) }
     {
-        let (_, behind) = split(fields.area, 58, size);
-        let (number, area) = split(behind, 58 - size, 4);
-        Contents::second_message(fields, size, number as u8, area)
-    }
-
-    // Both messages, once the second one's number is known.
-    fn second_message(fields: Fields, size: u32, number: u8, area: u64) -> Result<Contents, Refusal>
-        requires { (fields.area < 2 ^ 58) × ((size ≤ 54) × (area < 2 ^ (54 - size))) }
-        ensures { result ≡ second_message fields size number area }
-    {
-        let second_size = second_size(size, number)?;
-        let (payload, _) = split(fields.area, 58, size);
-        let (second_payload, leftover) = split(area, 54 - size, second_size);
+        let (number, behind) = rest.split(4);
+        let number = number as u8;
+        let second_size = size_within(behind.width, number)?;
+        let (second_payload, leftover) = behind.split(second_size);
         let first = Message::parse(fields.number, payload)?;
         let second = Message::parse(number, second_payload)?;
-        Contents::with(fields, first, Some(second)).if_nothing_left(leftover)
+        Contents::with(fields, first, Some(second)).if_nothing_left(leftover.bits)
     }
 }

@@ -2,7 +2,7 @@
 ghost use Rattle.std.specs.Prelude.{◌≡◌, ℕ, ◌^◌, ◌<◌, Bool, true, false, Some, None, Ok};
 ghost use Rattle.contents.specs.Contents.{contents_of, fields_of, fields_with, one_written, two_written, with_second};
 
-use crate::area::{first_size, join, second_size};
+use crate::area::{Area, first_size, size_within};
 use crate::contents::Contents;
 use message::message::Message;
 use pdu::fields::Fields;
@@ -39,7 +39,8 @@ impl Contents {
     {
         let size = first_size(false, self.first.number())?;
         let payload = self.first.payload()?;
-        Ok(self.fields_with(false, join(payload, size, 0, 58 - size)))
+        let area = Area::zeros(58 - size).behind(payload, size);
+        Ok(self.fields_with(false, area.bits))
     }
 
     fn two_written(self, second: Message) -> Result<Fields, Refusal>
@@ -47,11 +48,13 @@ impl Contents {
         ensures read_again { (f : Fields) → result ≡ Ok f → contents_of f ≡ Ok (with_second self (Some second)) }
     {
         let size = first_size(true, self.first.number())?;
-        let second_size = second_size(size, second.number())?;
+        let second_size = size_within(54 - size, second.number())?;
         let payload = self.first.payload()?;
         let second_payload = second.payload()?;
-        let behind = join(second_payload, second_size, 0, 54 - size - second_size);
-        let area = join(u64::from(second.number()), 4, behind, 54 - size);
-        Ok(self.fields_with(true, join(payload, size, area, 58 - size)))
+        let area = Area::zeros(54 - size - second_size)
+            .behind(second_payload, second_size)
+            .behind(u64::from(second.number()), 4)
+            .behind(payload, size);
+        Ok(self.fields_with(true, area.bits))
     }
 }
