@@ -20,6 +20,10 @@ pub record Linked {S T : Type 0} (m : Meaning S T) (s : S) (a : List (Step T)) (
   pub card_agrees : Card.Agrees m s (card_calls a) p
   pub monitor_agrees : Monitor.Agrees m s (monitor_events a) g
 
+-- What holds of the two places whatever run led to them.
+abbrev pub InEveryHistory : {S T : Type 0} → Meaning S T → Place S T → Gatherer S T → (S → List (Step T) → Type 0) → Type 0
+InEveryHistory {S} {T} m p g P = (s : S) (a : List (Step T)) → Linked m s a p g → P s a
+
 -- The run a, then a draw, and its frame, if it gave one, accepted.
 abbrev pub after_draw : {T : Type 0} → Option ℕ → List (Step T) → List (Step T)
 after_draw None a = card drawn ∷ a

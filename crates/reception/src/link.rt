@@ -1,7 +1,5 @@
 // A place of a card and the same place of a monitor.
-ghost use Rattle.std.specs.Prelude.{List};
-ghost use Rattle.reception.specs.Runs.{Step};
-ghost use Rattle.reception.specs.Linked.{Linked, Passed};
+ghost use Rattle.reception.specs.Linked.{InEveryHistory, Passed};
 
 use airing::place::Place;
 use family::family::Family;
@@ -10,10 +8,8 @@ use gatherer::gatherer::Gatherer;
 
 // Draws a frame at a place of the card, and has the same place of a monitor hear it.
 pub fn pass<F: Family>(card: &mut Place<F>, monitor: &mut Gatherer<F>) -> Option<Answer>
-    ensures { (s : F) (a : List (Step F.Head)) → Linked F.Family.meaning s a card.old monitor.old → Passed F.Family.meaning s a result card.new monitor.new }
+    ensures { InEveryHistory F.Family.meaning card.old monitor.old (λ s a. Passed F.Family.meaning s a result card.new monitor.new) }
 {
-    match card.draw() {
-        Some(frame) => monitor.offer(frame).ok(),
-        None => None,
-    }
+    let frame = card.draw()?;
+    monitor.offer(frame).ok()
 }
