@@ -1,5 +1,5 @@
 -- Payloads fit the sizes of their messages.
-use Rattle.std.proofs.Common.{◌≡◌, ℕ, ◌+◌, ◌-◌, ◌^◌, ◌<◌, ◌≤◌, Bool, true, false, cond, ◌&&◌, eqb, ltb, List, length, Some, None, Ok, Err, Option, Result, sym, refl, ap, ◌∙◌, subst, ⊎_elim, arith}
+use Rattle.std.proofs.Common.{◌≡◌, ℕ, ◌+◌, ◌-◌, ◌^◌, ◌<◌, ◌≤◌, Bool, true, false, cond, ◌&&◌, eqb, ltb, List, length, Some, None, Ok, Err, Result, sym, refl, ap, ◌∙◌, subst, ⊎_elim, arith}
 use Rattle.std.proofs.lemmas.Bool.{le-ltb, ltb-true, ltb-false, cond-true, cond-false, cases_Bool}
 use Rattle.pdu.specs.declared.refusal.Refusal.{Refusal}
 use Rattle.pdu.specs.declared.refusal.Refusal.TheVariants.{NotTenBytes, ReservedMessage, PayloadsTooLong, OutOfRange}
@@ -9,7 +9,7 @@ use Rattle.message.specs.declared.message.Message.{Message}
 use Rattle.message.specs.declared.message.Message.TheVariants.{StationId, ShortName, Frame, Location, Service, Parameter, Universal}
 use Rattle.message.specs.declared.place.Place.TheVariants.{Name, Message as PlaceMessage, Alert}
 use Rattle.message.specs.Message.{size_of, number_of, message_of, parsed}
-use Rattle.message.proofs.Ranges.{refused, then_parts}
+use Rattle.message.proofs.Ranges.{refused, or_refused, then_parts}
 use Rattle.std.proofs.lemmas.Bool.Decides.{nat_tests}
 use Rattle.message.specs.Results.{and_then}
 use Rattle.message.proofs.Sizes.{size_small}
@@ -20,10 +20,6 @@ pub unless_refused : {A : Type 0} (b : Bool) (x : Refusal) (a y : A) → cond b 
 unless_refused true x a y e = refused x y e
 unless_refused false x a y e = (refl, cc)
 
-size_due_lem : (o : Option ℕ) (size : ℕ) → ◌≡◌ {A = Result ℕ Refusal} (elim o [ Some s ↦ Ok s | None ↦ Err ReservedMessage ]) (Ok size) → o ≡ Some size
-size_due_lem None size e = refused ReservedMessage size e
-size_due_lem (Some s) size e = cc
-
 -- two tests of a size that agree
 same_tests : (r : Result ℕ Refusal) (f g : ℕ → Result ℕ Refusal) → ((s : ℕ) → r ≡ Ok s → f s ≡ g s) → and_then r f ≡ and_then r g
 same_tests (Ok s) f g h = h s refl
@@ -33,7 +29,7 @@ same_tests (Err x) f g h = refl
 pub first_within : (extension : Bool) (n : ℕ) → size_within (cond extension 54 58) n ≡ first_size extension n
 first_within true n = refl
 first_within false n = same_tests (size_due n) (λ s. cond (ltb 58 s) (Err PayloadsTooLong) (Ok s)) (λ s. Ok s) (λ s e.
-    let small = size_small n s (size_due_lem (size_of n) s e) in
+    let small = size_small n s (or_refused (size_of n) ReservedMessage s e) in
     cond-false (ltb 58 s) (Err PayloadsTooLong) (Ok s) (le-ltb 58 s small))
 
 -- the room for the second message is what the first one leaves
@@ -47,7 +43,7 @@ first_parts extension n size e =
     let parts = then_parts (size_due n) (λ s. cond (extension && ltb 54 s) (Err PayloadsTooLong) (Ok s)) size e in
     let s = parts.0 in
     let test = unless_refused (extension && ltb 54 s) PayloadsTooLong s size parts.2 in
-    (size_due_lem (size_of n) s parts.1 ∙ ap Some test.1, subst (λ (m : ℕ). (extension && ltb 54 m) ≡ false) test.1 test.0)
+    (or_refused (size_of n) ReservedMessage s parts.1 ∙ ap Some test.1, subst (λ (m : ℕ). (extension && ltb 54 m) ≡ false) test.1 test.0)
 
 pub second_parts : (first n size : ℕ) → second_size first n ≡ Ok size → (size_of n ≡ Some size) × (first + size ≤ 54)
 second_parts first n size e =
@@ -56,7 +52,7 @@ second_parts first n size e =
     let test = unless_refused (ltb 54 (first + s)) PayloadsTooLong s size parts.2 in
     let below = ltb-false 54 (first + s) test.0 in
     let same = test.1 in
-    (size_due_lem (size_of n) s parts.1 ∙ ap Some same, omega arith)
+    (or_refused (size_of n) ReservedMessage s parts.1 ∙ ap Some same, omega arith)
 
 -- a message that is read has a payload of its size
 pub payload_small : (n p size : ℕ) (m : Message) → size_of n ≡ Some size → parsed n p ≡ Ok m → p < 2 ^ size

@@ -1,5 +1,6 @@
 -- The message area: fields that follow one another, highest bit first.
-use Rattle.std.specs.Prelude.{ℕ, ◌+◌, ◌*◌, ◌/◌, ◌%◌, ◌^◌, Bool, cond, ◌&&◌, Some, None, Ok, Err, Result, nat_lt}
+use Rattle.std.specs.Prelude.{ℕ, ◌+◌, ◌*◌, ◌/◌, ◌%◌, ◌^◌, Bool, cond, ◌&&◌, Ok, Err, Result, nat_lt}
+use Rattle.std.specs.Option.{ok_or}
 use Rattle.pdu.specs.declared.refusal.Refusal.{Refusal}
 use Rattle.pdu.specs.declared.refusal.Refusal.TheVariants.{ReservedMessage, PayloadsTooLong}
 use Rattle.message.specs.Message.{size_of}
@@ -18,7 +19,7 @@ joined first width area = first * 2 ^ width + area
 
 -- The payload size of a message number; a reserved one is refused.
 abbrev pub size_due : ℕ → Result ℕ Refusal
-size_due n = elim (size_of n) [ Some size ↦ Ok size | None ↦ Err ReservedMessage ]
+size_due n = ok_or (size_of n) ReservedMessage
 
 -- The payload size of a message for which there is so much room.
 abbrev pub size_within : ℕ → ℕ → Result ℕ Refusal

@@ -1,4 +1,4 @@
-use Rattle.std.proofs.Common.{◌≡◌, ◌-◌, ◌≤◌, sym, ap, ◌∙◌, arith}
+use Rattle.std.proofs.Common.{◌-◌, ◌≤◌, sym, ◌∙◌, arith}
 use Rattle.contents.proofs.Trips.{two_taken}
 use Rattle.contents.proofs.contents.Contents.from_fields.Goals as goal
 

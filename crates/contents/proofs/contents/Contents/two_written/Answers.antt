@@ -1,5 +1,4 @@
-use Rattle.std.proofs.Common.{◌≡◌, ℕ, ◌+◌, ◌-◌, ◌^◌, ◌<◌, true, Ok, sym, ap, ◌∙◌, subst, ap₂, arith, pow_pos, rules}
-use Rattle.std.proofs.lemmas.Bool.{ltb-false}
+use Rattle.std.proofs.Common.{◌≡◌, ◌-◌, true, Ok, sym, ap, ◌∙◌, ap₂, arith}
 use Rattle.message.specs.Message.{number_of}
 use Rattle.contents.specs.Area.{size_within, first_size, second_size, joined}
 use Rattle.contents.specs.Contents.{contents_of, fields_with}
