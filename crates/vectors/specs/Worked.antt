@@ -11,7 +11,7 @@ use Rattle.message.specs.declared.place.Place.TheVariants.{Name, Message, Alert}
 use Rattle.message.specs.Location.{LatitudeHalf, LongitudeHalf, location_of}
 use Rattle.message.specs.Message.{parsed}
 use Rattle.family.specs.Meaning.{RecordOf, Meaning}
-use Rattle.layout.specs.Family.{meaning_of}
+use Rattle.family.specs.Family.{meaning_of}
 use Rattle.name.specs.Name.{name_layout}
 use Rattle.station_message.specs.declared.message.MessageHead.{MessageHead}
 use Rattle.station_message.specs.Message.{message_layout}
