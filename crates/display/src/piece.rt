@@ -27,13 +27,11 @@ pub fn pieces<'a>(head: AlertHead, bytes: &'a [u8]) -> Result<(Piece<'a>, Piece<
         return Err(refusal);
     }
     let place = 2 * usize::from(head.control_length);
+    let (control, text) = bytes.split_at(place);
     let control = Part {
         place: 0,
-        bytes: &bytes[0..place],
+        bytes: control,
     };
-    let text = Part {
-        place,
-        bytes: &bytes[place..],
-    };
+    let text = Part { place, bytes: text };
     Ok((Piece::Control(control), Piece::Text(text)))
 }

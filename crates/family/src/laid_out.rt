@@ -1,6 +1,6 @@
 // The one family of every layout.
 ghost use Rattle.std.specs.Prelude.{◌≡◌, ◌<◌, ◌≤◌, None, if◌then◌else◌, Ok, Err};
-ghost use Rattle.layout.specs.Frames.{FitLayout, text_in};
+ghost use Rattle.layout.specs.Frames.{text_in};
 ghost use Rattle.pdu.specs.declared.refusal.Refusal.TheVariants.{UnlawfulFrame};
 ghost use Rattle.family.specs.Texts.{bytes_of, record_view};
 ghost use Rattle.family.specs.Family.{meaning_of};
@@ -11,17 +11,17 @@ use crate::family_layout::FamilyLayout;
 use crate::text::{Record, Text};
 use layout::cut::Cut;
 use layout::frames::frame_or_zero;
-use layout::layout::{FrameLayout, Payload};
+use layout::layout::Payload;
+use layout::text_frames::TextFrames;
 use pdu::refusal::Refusal;
 
-// The text of the first bytes in the frames.
-fn text_in(layout: FrameLayout, frames: &[Payload], length: usize) -> Text
-    requires fits { FitLayout layout }
-    requires short { length ≤ 381 }
-    ensures { bytes_of result ≡ text_in layout frames.now length }
+// The first bytes of the text in the frames.
+fn text_in(frames: &TextFrames, length: usize) -> Text
+    requires { length ≤ 381 }
+    ensures { bytes_of result ≡ text_in frames.now.layout frames.now.frames.now length }
 {
     let mut bytes = [0; 381];
-    layout.read_text(frames, &mut bytes[0..length]);
+    frames.read_text(&mut bytes[0..length]);
     Text { bytes, len: length }
 }
 
@@ -107,9 +107,13 @@ impl<L: FamilyLayout> Family for L {
 
     fn join(&self, frames: &[Payload]) -> Option<Record<L::Head>> {
         let first = frame_or_zero(frames, 0);
+        let held = TextFrames {
+            layout: L::FRAME_LAYOUT,
+            frames,
+        };
         let record = Record {
             head: self.head_in(first),
-            text: text_in(L::FRAME_LAYOUT, frames, self.length_in(frames)),
+            text: text_in(&held, self.length_in(frames)),
         };
         if self.why_refused(&record).is_some() {
             return None;

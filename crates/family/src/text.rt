@@ -1,6 +1,7 @@
 // A text of at most 381 bytes, held by value, and a record: a head with a text.
 ghost use Rattle.std.specs.Prelude.{◌≡◌, ℕ, ◌<◌, ◌≤◌, length, slice_index};
 
+// An array with its length, and no Vec: a device has fixed memory, and a text is copied with its record.
 #[derive(Clone, Copy)]
 pub struct Text {
     pub bytes: [u8; 381],

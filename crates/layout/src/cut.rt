@@ -3,7 +3,6 @@ ghost use Rattle.std.specs.Prelude.{◌≡◌, ℕ, ◌+◌, ◌*◌, ◌^◌, �
 ghost use Rattle.std.specs.Str.{bytes_eq};
 ghost use Rattle.layout.specs.Frames.{with_bytes, place_of, bytes_in, leading_of, frame_of, cut_of, Cuttable};
 
-use crate::frames::with_bytes;
 use crate::layout::{FrameFields, FrameLayout, Payload};
 
 // A text between the fields of its frames.
@@ -15,41 +14,45 @@ pub struct Cut<'a> {
     ghost cuttable: { Cuttable layout fields text.now },
 }
 
-impl FrameFields {
+impl<'a> Cut<'a> {
     // The fields before the bytes of frame i.
-    fn leading(self, i: usize) -> u64
-        requires near { i < 64 }
-        requires room { self.later_leading + 64 * self.number_unit ≤ 2 ^ 61 }
-        requires some { 1 ≤ self.number_unit }
-        ensures { result ≡ leading_of self i }
+    fn leading(&self, i: usize) -> u64
+        requires { i < 64 }
+        ensures { result ≡ leading_of self.now.fields i }
     {
         if i == 0 {
-            self.first_leading
+            self.fields.first_leading
         } else {
-            self.later_leading + i as u64 * self.number_unit
+            self.fields.later_leading + i as u64 * self.fields.number_unit
         }
     }
-}
 
-impl<'a> Cut<'a> {
+    // A number, followed by so many bytes of the text from a place on.
+    fn with_bytes(&self, leading: u64, place: usize, count: usize) -> u64
+        requires room { (leading + 1) * 2 ^ (self.now.layout.byte_bits * count) ≤ 2 ^ 64 }
+        requires near { place + count < 2 ^ 32 }
+        ensures { result ≡ with_bytes leading self.now.layout.byte_bits self.now.text.now place count }
+    {
+        let mut packed = leading;
+        for i in 0..count {
+            let byte = self.text.get(place + i).copied().unwrap_or(0);
+            packed = packed * (1 << self.layout.byte_bits) + u64::from(byte);
+        }
+        packed
+    }
+
     // Frame i without its trailing fields.
     fn before_trailing(&self, i: usize) -> u64
         requires near { i < 64 }
         ensures { result ≡ with_bytes (leading_of self.now.fields i) self.now.layout.byte_bits self.now.text.now (place_of self.now.layout i) (bytes_in self.now.layout i) }
     {
-        let leading = self.fields.leading(i);
+        let leading = self.leading(i);
         let layout = self.layout;
         if i == 0 {
-            with_bytes(leading, layout.byte_bits, self.text, 0, layout.first_bytes)
+            self.with_bytes(leading, 0, layout.first_bytes)
         } else {
             let place = layout.first_bytes + (i - 1) * layout.later_bytes;
-            with_bytes(
-                leading,
-                layout.byte_bits,
-                self.text,
-                place,
-                layout.later_bytes,
-            )
+            self.with_bytes(leading, place, layout.later_bytes)
         }
     }
 

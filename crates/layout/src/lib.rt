@@ -4,3 +4,4 @@
 pub mod cut;
 pub mod frames;
 pub mod layout;
+pub mod text_frames;

@@ -7,6 +7,7 @@ ghost use Rattle.name.specs.Sound.{sound};
 use family::family_layout::FamilyLayout;
 use family::text::Record;
 use layout::layout::{FrameFields, FrameLayout, Payload};
+use layout::text_frames::TextFrames;
 use pdu::refusal::Refusal;
 
 #[derive(Clone, Copy)]
@@ -76,8 +77,12 @@ impl FamilyLayout for Name {
 
     // How many characters stand before the first zero.
     fn length_in(&self, frames: &[Payload]) -> usize {
+        let held = TextFrames {
+            layout: Self::FRAME_LAYOUT,
+            frames,
+        };
         (0..LONGEST)
-            .find(|j| Self::FRAME_LAYOUT.byte_at(frames, *j) == 0)
+            .find(|j| held.byte_at(*j) == 0)
             .unwrap_or(LONGEST)
     }
 

@@ -1,7 +1,0 @@
-use Rattle.std.proofs.Common.{length, arith}
-use Rattle.std.proofs.lemmas.List.FromFn.{fill_by_all}
-use Rattle.layout.specs.Frames.{byte_at}
-use Rattle.layout.proofs.layout.FrameLayout.read_text.Goals as goal
-
-pub returns : goal.returns
-returns c = fill_by_all (byte_at c.args.self c.args.frames.now) c.loop-j.text (length c.args.text.now) 0 (omega arith) (λ k l. c.loop-j.invariant k (omega arith))
