@@ -4,7 +4,7 @@ use airing::place::Place;
 use airing::stored::Stored;
 use family::family::Family;
 use family::text::{Record, Text};
-use gatherer_tests::two::Two;
+use gatherer_tests::two::{Two, frame_of};
 use pdu::refusal::Refusal;
 use std::test::Fail;
 
@@ -16,19 +16,14 @@ fn record(head: bool, byte: u8) -> Result<Record<bool>, Refusal> {
     })
 }
 
-// Frame i under a sequence number, with a byte.
-fn frame(sequence: u64, i: u64, byte: u64) -> Option<u64> {
-    Some((sequence % 4 * 2 + i % 2) * 256 + byte % 256)
-}
-
 #[test]
 fn draws_in_rounds(rt: HostRuntime) -> Result<(), Fail> {
     let mut place = Place::new(Two);
     assert_eq!(rt; place.draw(), None);
     assert_eq!(rt; place.store(record(true, 65)?)?, Stored::Changed);
-    assert_eq!(rt; place.draw(), frame(0, 0, 1));
-    assert_eq!(rt; place.draw(), frame(0, 1, 65));
-    assert_eq!(rt; place.draw(), frame(0, 0, 1));
+    assert_eq!(rt; place.draw(), Some(frame_of(0, 0, 1)));
+    assert_eq!(rt; place.draw(), Some(frame_of(0, 1, 65)));
+    assert_eq!(rt; place.draw(), Some(frame_of(0, 0, 1)));
     Ok(())
 }
 
@@ -36,10 +31,10 @@ fn draws_in_rounds(rt: HostRuntime) -> Result<(), Fail> {
 fn goes_on_with_an_equal_record(rt: HostRuntime) -> Result<(), Fail> {
     let mut place = Place::new(Two);
     assert_eq!(rt; place.store(record(true, 65)?)?, Stored::Changed);
-    assert_eq!(rt; place.draw(), frame(0, 0, 1));
+    assert_eq!(rt; place.draw(), Some(frame_of(0, 0, 1)));
     assert_eq!(rt; place.store(record(false, 65)?)?, Stored::Unchanged);
-    assert_eq!(rt; place.draw(), frame(0, 1, 65));
-    assert_eq!(rt; place.draw(), frame(0, 0, 1));
+    assert_eq!(rt; place.draw(), Some(frame_of(0, 1, 65)));
+    assert_eq!(rt; place.draw(), Some(frame_of(0, 0, 1)));
     Ok(())
 }
 
@@ -51,9 +46,9 @@ fn counts_changes_modulo_four(rt: HostRuntime) -> Result<(), Fail> {
         assert_eq!(rt; place.store(record(true, byte)?)?, Stored::Changed);
         assert_eq!(rt; place.sequence_number(), Some(byte - 1));
     }
-    assert_eq!(rt; place.draw(), frame(3, 0, 1));
+    assert_eq!(rt; place.draw(), Some(frame_of(3, 0, 1)));
     assert_eq!(rt; place.store(record(false, 5)?)?, Stored::Changed);
-    assert_eq!(rt; place.draw(), frame(0, 0, 0));
+    assert_eq!(rt; place.draw(), Some(frame_of(0, 0, 0)));
     Ok(())
 }
 
@@ -61,14 +56,14 @@ fn counts_changes_modulo_four(rt: HostRuntime) -> Result<(), Fail> {
 fn keeps_a_withdrawn_record(rt: HostRuntime) -> Result<(), Fail> {
     let mut place = Place::new(Two);
     assert_eq!(rt; place.store(record(true, 65)?)?, Stored::Changed);
-    assert_eq!(rt; place.draw(), frame(0, 0, 1));
+    assert_eq!(rt; place.draw(), Some(frame_of(0, 0, 1)));
     place.withdraw();
     assert_eq!(rt; place.is_on_air(), false);
     assert_eq!(rt; place.sequence_number(), Some(0));
     assert_eq!(rt; place.draw(), None);
     assert_eq!(rt; place.store(record(true, 65)?)?, Stored::Unchanged);
     assert_eq!(rt; place.is_on_air(), true);
-    assert_eq!(rt; place.draw(), frame(0, 1, 65));
+    assert_eq!(rt; place.draw(), Some(frame_of(0, 1, 65)));
     Ok(())
 }
 
@@ -78,14 +73,14 @@ fn refuses_an_unlawful_record(rt: HostRuntime) -> Result<(), Fail> {
     assert_eq!(rt; place.store(record(true, 65)?)?, Stored::Changed);
     assert_eq!(rt; place.store(record(true, 0)?), Err(Refusal::TextByte));
     assert_eq!(rt; place.family().sequence_numbers(), 4);
-    assert_eq!(rt; place.draw(), frame(0, 0, 1));
+    assert_eq!(rt; place.draw(), Some(frame_of(0, 0, 1)));
     Ok(())
 }
 
 #[test]
 fn draws_each_frame_of_a_round(rt: HostRuntime) -> Result<(), Fail> {
     let (first, second) = frames_of_a_round(record(true, 65)?)?;
-    assert_eq!(rt; first, frame(0, 0, 1));
-    assert_eq!(rt; second, frame(0, 1, 65));
+    assert_eq!(rt; first, Some(frame_of(0, 0, 1)));
+    assert_eq!(rt; second, Some(frame_of(0, 1, 65)));
     Ok(())
 }
