@@ -71,10 +71,10 @@ module _ {N T M U E V S X : Type 0} (f : Families N T M U E V) (st : Station) (p
 
   at_turn : (b : Bool) (o : Option ℕ) (x : ℕ) → cond b o None ≡ Some x → (b ≡ true) × (o ≡ Some x)
   at_turn true o x e = (refl, e)
-  at_turn false o x e = absurd (let z : ◌≡◌ {A = ℕ} 0 1 = cc in omega arith)
+  at_turn false o x e = absurd (cc)
 
   last_held : (h : List (CardCall (Head T U V))) (c : Contents) → contents_last_drawn f st h ≡ Some c → Held h c
-  last_held [] c e = absurd (let z : ◌≡◌ {A = ℕ} 0 1 = cc in omega arith)
+  last_held [] c e = absurd (cc)
   last_held (store n r ∷ h) c e =
       let k = last_held h c e in
       let same = store_skipped (frame_last_drawn p.family.meaning p.family.setting) (λ r xs. refl) (eqb n (place_number p.place)) p.family (own_record p r) (calls_at p h) in

@@ -58,5 +58,5 @@ module _ {N T M U E V : Type 0} (f : Families N T M U E V) (st : Station) (a : L
 pub not_read : {N T M U E V : Type 0} (f : Families N T M U E V) (h : List MonitorCall) (bs : List ℕ) (e : Refusal) → offer_due f h bs ≡ Err e → read_with (lawful_in f) bs ≡ Err e
 not_read f h bs e is =
     let P : Result Contents Refusal → Type 0 = λ r. and_then r (λ c. Ok (message_answer f (hearings (lawful_in f) h) c.first)) ≡ Err e → r ≡ Err e in
-    let go : (r : Result Contents Refusal) → P r = λ r. elim r as P [ Ok c ↦ λ z. absurd (let y : ◌≡◌ {A = ℕ} 0 1 = cc in omega arith) | Err x ↦ λ z. (let y : x ≡ e = cc in ap Err y) ] in
+    let go : (r : Result Contents Refusal) → P r = λ r. elim r as P [ Ok c ↦ λ z. absurd (cc) | Err x ↦ λ z. (let y : x ≡ e = cc in ap Err y) ] in
     go (read_with (lawful_in f) bs) is

@@ -14,17 +14,9 @@ fn an_empty_card_draws_the_station(rt: HostRuntime) -> Result<(), Fail> {
         assert_eq!(rt; drawn(&mut card)?, station);
     }
     let contents = Contents::read(&station)?;
-    match (contents.first, contents.second) {
-        (Message::ShortName(name), Some(Message::StationId(id))) => {
-            assert_eq!(rt; name.characters.0.0, 22);
-            assert_eq!(rt; id.country.0, 64);
-            Ok(())
-        }
-        _ => {
-            assert!(rt; false);
-            Ok(())
-        },
-    }
+    assert!(rt; matches!(contents.first, Message::ShortName(name) if name.characters.0.0 == 22));
+    assert!(rt; matches!(contents.second, Some(Message::StationId(id)) if id.country.0 == 64));
+    Ok(())
 }
 
 #[test]

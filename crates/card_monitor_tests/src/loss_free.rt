@@ -19,14 +19,6 @@ fn a_monitor_shows_what_a_card_draws(rt: HostRuntime) -> Result<(), Fail> {
     assert_eq!(rt; shown(&monitor, 5)?, (10, *b"TEN BYTES!"));
     assert_eq!(rt; shown(&monitor, 9)?, (7, *b"ALERTS!\x07\x07\x07"));
     assert_eq!(rt; monitor.information().station_id()?.facility, 7);
-    match monitor.shown_head(9)? {
-        Head::Alert(head) => {
-            assert_eq!(rt; head.control_length, 3);
-            Ok(())
-        },
-        _ => {
-            assert!(rt; false);
-            Ok(())
-        },
-    }
+    assert!(rt; matches!(monitor.shown_head(9)?, Head::Alert(head) if head.control_length == 3));
+    Ok(())
 }

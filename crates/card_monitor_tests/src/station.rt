@@ -1,9 +1,11 @@
 // A card and a monitor of one station, records for its three places, and known PDUs.
 use alert::alert::{Alert, AlertHead};
 use card::card::Card;
+use card::station::Station;
 use family::family::Family;
 use family::text::{Record, Text};
 use message::station::{CallSignExtension, Character, CountryCode, ShortName, StationId};
+use monitor::answer::answer_number;
 use monitor::monitor::Monitor;
 use name::name::Name;
 use pdu::refusal::Refusal;
@@ -24,16 +26,18 @@ pub(crate) fn new_monitor() -> Result<StationMonitor, Refusal> {
 }
 
 pub(crate) fn new_card(country: u16) -> Result<StationCard, Refusal> {
-    let station_id = StationId {
-        country: CountryCode(country),
-        reserved: 0,
-        facility: 7,
+    let station = Station {
+        id: StationId {
+            country: CountryCode(country),
+            reserved: 0,
+            facility: 7,
+        },
+        short_name: ShortName {
+            characters: (Character(22), Character(0), Character(1), Character(2)),
+            extension: CallSignExtension::DashFm,
+        },
     };
-    let short_name = ShortName {
-        characters: (Character(22), Character(0), Character(1), Character(2)),
-        extension: CallSignExtension::DashFm,
-    };
-    Card::open(station_id, short_name, Name, StationMessage, Alert::new(9)?)
+    Card::open(station, Name, StationMessage, Alert::new(9)?)
 }
 
 pub(crate) fn name(text: &[u8]) -> Result<StationRecord, Refusal> {
@@ -72,10 +76,7 @@ pub(crate) fn drawn(card: &mut StationCard) -> Result<[u8; 10], Refusal> {
 
 // The number of the answer to an offer, or of its refusal.
 pub(crate) fn offered(monitor: &mut StationMonitor, bytes: &[u8]) -> u8 {
-    match monitor.offer(bytes) {
-        Ok(answer) => answer.number(),
-        Err(refused) => refused.number(),
-    }
+    monitor.offer(bytes).map_or_else(u8::from, answer_number)
 }
 
 // The length of the text shown, and the text with sevens behind it.

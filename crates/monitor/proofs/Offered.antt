@@ -17,7 +17,7 @@ if_lawful_lem : (lawful : Place → ℕ → Bool) (d c : Contents) → if_lawful
 if_lawful_lem lawful d c e =
     elim (cases_Bool (contents_lawful lawful d)) [
       | inl held ↦ (let f : ◌≡◌ {A = Result Contents Refusal} (Ok d) (Ok c) = sym (ap (λ b. cond b (Ok d) (Err UnlawfulFrame)) held) ∙ e in let same : d ≡ c = cc in subst (λ x. contents_lawful lawful x ≡ true) same held)
-      | inr broken ↦ absurd (let f : ◌≡◌ {A = Result Contents Refusal} (Err UnlawfulFrame) (Ok c) = sym (ap (λ b. cond b (Ok d) (Err UnlawfulFrame)) broken) ∙ e in let z : ◌≡◌ {A = ℕ} 0 1 = cc in omega arith)
+      | inr broken ↦ absurd (let f : ◌≡◌ {A = Result Contents Refusal} (Err UnlawfulFrame) (Ok c) = sym (ap (λ b. cond b (Ok d) (Err UnlawfulFrame)) broken) ∙ e in cc)
     ]
 
 -- what was read is lawful, the first message and the second

@@ -1,5 +1,6 @@
 -- The location, once halves in range were heard.
-use Rattle.std.proofs.Common.{◌≡◌, ℕ, Bool, true, ◌&&◌, List, [], ◌∷◌, Some, None, Ok, Err, Option, refl, arith}
+use Rattle.std.proofs.Common.{◌≡◌, ℕ, Bool, true, ◌&&◌, List, [], ◌∷◌, Some, None, Ok, Err, Option, refl}
+use Rattle.std.specs.Option.{option_or}
 use Rattle.std.proofs.lemmas.Bool.{and_from}
 use Rattle.pdu.specs.declared.refusal.Refusal.TheVariants.{OutOfRange}
 use Rattle.message.specs.declared.message.Message.{Message}
@@ -9,7 +10,7 @@ use Rattle.message.specs.declared.location.LocationHalf.TheVariants.{Latitude, L
 use Rattle.message.specs.Location.{LatitudeHalf, LongitudeHalf, latitude_in_range, longitude_in_range, half_in_range, half_packed}
 use Rattle.message.proofs.Ranges.{range_parts}
 use Rattle.message.specs.Message.{payload_of}
-use Rattle.station_information.specs.Hearings.{Hearing, heard, forgot, first_of, latest}
+use Rattle.station_information.specs.Hearings.{Hearing, heard, forgot, latest}
 use Rattle.station_information.specs.Latest.{half_in, latitude_of, latitude_in, longitude_of, longitude_in, location_from, location_due}
 use Rattle.station_information.specs.Ranges.{none_or_in_range, HalvesInRange}
 
@@ -17,10 +18,10 @@ use Rattle.station_information.specs.Ranges.{none_or_in_range, HalvesInRange}
 latest_in_range : {A : Type 0} (told : Option LocationHalf → Option A) (good : A → Bool) →
     ((half : Option LocationHalf) (a : A) → none_or_in_range half ≡ true → told half ≡ Some a → good a ≡ true) →
     (h : List Hearing) (a : A) → HalvesInRange h → latest (λ m. told (half_in m)) h ≡ Some a → good a ≡ true
-latest_in_range told good each [] a all e = absurd (let z : ◌≡◌ {A = ℕ} 0 1 = cc in omega arith)
-latest_in_range told good each (forgot ∷ h) a all e = absurd (let z : ◌≡◌ {A = ℕ} 0 1 = cc in omega arith)
+latest_in_range told good each [] a all e = absurd (cc)
+latest_in_range told good each (forgot ∷ h) a all e = absurd (cc)
 latest_in_range {A} told good each (heard m ∷ h) a all e =
-    let P : Option A → Type 0 = λ o. told (half_in m) ≡ o → first_of o (latest (λ m. told (half_in m)) h) ≡ Some a → good a ≡ true in
+    let P : Option A → Type 0 = λ o. told (half_in m) ≡ o → option_or o (latest (λ m. told (half_in m)) h) ≡ Some a → good a ≡ true in
     let go : (o : Option A) → P o = λ o. elim o as P [
       | None ↦ λ t f. latest_in_range told good each h a all.1 f
       | Some b ↦ λ t f. each (half_in m) a all.0 (cc)
@@ -28,24 +29,24 @@ latest_in_range {A} told good each (heard m ∷ h) a all e =
     go (told (half_in m)) refl e
 
 latitude_good : (half : Option LocationHalf) (a : LatitudeHalf) → none_or_in_range half ≡ true → latitude_of half ≡ Some a → latitude_in_range a ≡ true
-latitude_good None a g e = absurd (let z : ◌≡◌ {A = ℕ} 0 1 = cc in omega arith)
+latitude_good None a g e = absurd (cc)
 latitude_good (Some (Latitude b)) a g e = let same : b ≡ a = cc in rw (← same) g
-latitude_good (Some (Longitude b)) a g e = absurd (let z : ◌≡◌ {A = ℕ} 0 1 = cc in omega arith)
+latitude_good (Some (Longitude b)) a g e = absurd (cc)
 
 longitude_good : (half : Option LocationHalf) (a : LongitudeHalf) → none_or_in_range half ≡ true → longitude_of half ≡ Some a → longitude_in_range a ≡ true
-longitude_good None a g e = absurd (let z : ◌≡◌ {A = ℕ} 0 1 = cc in omega arith)
-longitude_good (Some (Latitude b)) a g e = absurd (let z : ◌≡◌ {A = ℕ} 0 1 = cc in omega arith)
+longitude_good None a g e = absurd (cc)
+longitude_good (Some (Latitude b)) a g e = absurd (cc)
 longitude_good (Some (Longitude b)) a g e = let same : b ≡ a = cc in rw (← same) g
 
 -- halves in range are never refused as out of range
 from_in_range : (a : Option LatitudeHalf) (b : Option LongitudeHalf) → ((x : LatitudeHalf) → a ≡ Some x → latitude_in_range x ≡ true) → ((y : LongitudeHalf) → b ≡ Some y → longitude_in_range y ≡ true) →
     location_from a b ≡ Err OutOfRange → ⊥
-from_in_range None b p q e = let z : ◌≡◌ {A = ℕ} 0 1 = cc in omega arith
-from_in_range (Some x) None p q e = let z : ◌≡◌ {A = ℕ} 0 1 = cc in omega arith
+from_in_range None b p q e = cc
+from_in_range (Some x) None p q e = cc
 from_in_range (Some x) (Some y) p q e =
     let t : (latitude_in_range x && longitude_in_range y) ≡ true = and_from _ _ (p x refl) (q y refl) in
     let f = rw t at e in
-    let z : ◌≡◌ {A = ℕ} 0 1 = cc in omega arith
+    cc
 
 pub located : (h : List Hearing) → HalvesInRange h → location_due h ≡ Err OutOfRange → ⊥
 located h all =

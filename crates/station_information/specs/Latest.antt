@@ -1,5 +1,6 @@
 -- What one message tells of a station.
-use Rattle.std.specs.Prelude.{ℕ, Bool, true, false, cond, List, Some, None, Ok, Err, Option, Result, ◌==◌, nat_lt}
+use Rattle.std.specs.Prelude.{ℕ, Bool, true, false, cond, List, Some, None, Err, Option, Result, ◌==◌, nat_lt}
+use Rattle.std.specs.Option.{ok_or}
 use Rattle.pdu.specs.declared.refusal.Refusal.{Refusal}
 use Rattle.pdu.specs.declared.refusal.Refusal.TheVariants.{OutOfRange, NothingThere}
 use Rattle.message.specs.declared.message.Message.{Message}
@@ -137,8 +138,7 @@ local_in m = local_of (parameter_in m)
 
 -- What a question answers: 22 while nothing was heard.
 abbrev pub or_nothing : {A : Type 0} → Option A → Result A Refusal
-or_nothing None = Err NothingThere
-or_nothing (Some a) = Ok a
+or_nothing o = ok_or o NothingThere
 
 -- The location, once both of its halves were heard.
 abbrev pub location_from : Option LatitudeHalf → Option LongitudeHalf → Result (Angle × Angle × Altitude) Refusal

@@ -1,10 +1,11 @@
 -- When what is kept of a station agrees with what was heard.
 use Rattle.std.specs.Prelude.{◌≡◌, ℕ, ◌<◌, List, None, Option, slice_index_or}
+use Rattle.std.specs.Option.{option_or}
 use Rattle.message.specs.declared.message.Message.{Message}
 use Rattle.message.specs.declared.service.AudioService.{AudioService}
 use Rattle.station_information.specs.declared.information.StationInformation.{StationInformation}
 use Rattle.station_information.specs.declared.information.Program.{Program}
-use Rattle.station_information.specs.Hearings.{Hearing, first_of, latest}
+use Rattle.station_information.specs.Hearings.{Hearing, latest}
 use Rattle.station_information.specs.Latest.{station_id_in, short_name_in, latitude_in, longitude_in, leap_in, local_in, program_in}
 
 -- The audio service of program n in the table of programs.
@@ -21,12 +22,16 @@ pub record Tells (h : List Hearing) (k : StationInformation) : Type 0 where
   pub local_time_is : k.local_time ≡ latest local_in h
   pub programs_are : (n : ℕ) → n < 64 → audio_at n k.programs ≡ latest (program_in n) h
 
+-- What holds of what is kept whatever was heard, as long as it tells that.
+abbrev pub InEveryHistory : StationInformation → (List Hearing → Type 0) → Type 0
+InEveryHistory k P = (h : List Hearing) → Tells h k → P h
+
 -- Each part is what the message m tells of it, or else as it was before.
 pub record Updated (m : Message) (before after : StationInformation) : Type 0 where
-  pub station_id_is : after.station_id ≡ first_of (station_id_in m) before.station_id
-  pub short_name_is : after.short_name ≡ first_of (short_name_in m) before.short_name
-  pub latitude_is : after.latitude ≡ first_of (latitude_in m) before.latitude
-  pub longitude_is : after.longitude ≡ first_of (longitude_in m) before.longitude
-  pub leap_seconds_are : after.leap_seconds ≡ first_of (leap_in m) before.leap_seconds
-  pub local_time_is : after.local_time ≡ first_of (local_in m) before.local_time
-  pub programs_are : (n : ℕ) → n < 64 → audio_at n after.programs ≡ first_of (program_in n m) (audio_at n before.programs)
+  pub station_id_is : after.station_id ≡ option_or (station_id_in m) before.station_id
+  pub short_name_is : after.short_name ≡ option_or (short_name_in m) before.short_name
+  pub latitude_is : after.latitude ≡ option_or (latitude_in m) before.latitude
+  pub longitude_is : after.longitude ≡ option_or (longitude_in m) before.longitude
+  pub leap_seconds_are : after.leap_seconds ≡ option_or (leap_in m) before.leap_seconds
+  pub local_time_is : after.local_time ≡ option_or (local_in m) before.local_time
+  pub programs_are : (n : ℕ) → n < 64 → audio_at n after.programs ≡ option_or (program_in n m) (audio_at n before.programs)

@@ -14,7 +14,7 @@ place_number_lem n p e =
         | inl five ↦ (let f : ◌≡◌ {A = Option Place} (Some Message) (Some p) = rw five at e in let q : Message ≡ p = cc in rw (five, ← q) refl)
         | inr b ↦ elim (cases_eq n 9) [
           | inl nine ↦ (let f : ◌≡◌ {A = Option Place} (Some Alert) (Some p) = rw nine at e in let q : Alert ≡ p = cc in rw (nine, ← q) refl)
-          | inr c ↦ absurd (let f : ◌≡◌ {A = Option Place} None (Some p) = rw (ne_eqb n 2 a, ne_eqb n 5 b, ne_eqb n 9 c) at e in let z : ◌≡◌ {A = ℕ} 0 1 = cc in omega arith)
+          | inr c ↦ absurd (let f : ◌≡◌ {A = Option Place} None (Some p) = rw (ne_eqb n 2 a, ne_eqb n 5 b, ne_eqb n 9 c) at e in cc)
         ]
       ]
     ]

@@ -1,8 +1,8 @@
 // The calls that change what is kept of a station.
-ghost use Rattle.std.specs.Prelude.{◌≡◌, ℕ, ◌<◌, true, List, [], ◌∷◌, None};
-ghost use Rattle.station_information.specs.Hearings.{Hearing, heard, forgot};
+ghost use Rattle.std.specs.Prelude.{◌≡◌, ℕ, ◌<◌, true, [], ◌∷◌, None};
+ghost use Rattle.station_information.specs.Hearings.{heard, forgot};
 ghost use Rattle.station_information.specs.Latest.{is_unread};
-ghost use Rattle.station_information.specs.Tells.{audio_at, Tells, Updated};
+ghost use Rattle.station_information.specs.Tells.{audio_at, Tells, InEveryHistory, Updated};
 
 use crate::information::{Program, StationInformation};
 use message::location::LocationHalf;
@@ -28,7 +28,7 @@ impl StationInformation {
 
     // Keeps what a message tells, in place of what an earlier one told of the same.
     pub fn hear(&mut self, message: Message)
-        ensures tells { (h : List Hearing) → Tells h self.old → Tells (heard message ∷ h) self.new }
+        ensures tells { InEveryHistory self.old (λ h. Tells (heard message ∷ h) self.new) }
         ensures unchanged { is_unread message ≡ true → self.new ≡ self.old }
     {
         match message {
@@ -37,15 +37,14 @@ impl StationInformation {
             Message::Location(half) => self.hear_half(half),
             Message::Service(service) => self.hear_service(service),
             Message::Parameter(parameter) => self.hear_parameter(parameter),
-            Message::Frame(_, _) => {}
-            Message::Universal(_) => {}
+            Message::Frame(_, _) | Message::Universal(_) => {}
         }
     }
 
     // Everything is empty again.
     pub fn forget(&mut self)
         ensures emptied { Tells [] self.new }
-        ensures tells { (h : List Hearing) → Tells h self.old → Tells (forgot ∷ h) self.new }
+        ensures tells { InEveryHistory self.old (λ h. Tells (forgot ∷ h) self.new) }
     {
         *self = StationInformation::new();
     }

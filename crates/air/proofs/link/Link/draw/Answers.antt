@@ -10,7 +10,7 @@ use Rattle.air.proofs.link.Link.draw.Goals as goal
 -- a buffer of ten bytes is not refused
 pub returns-in_err-draw : goal.returns-in_err-draw
 returns-in_err-draw g c n m e st a k =
-    absurd (let s = (c.draw.ensures.due n m e st (card_calls a) k.card_agrees).answer_is in let was = c.in_err-draw.was in let z : ◌≡◌ {A = ℕ} 0 1 = cc in omega arith)
+    absurd (let s = (c.draw.ensures.due n m e st (card_calls a) k.card_agrees).answer_is in let was = c.in_err-draw.was in cc)
 
 pub returns : goal.returns
 returns g c n m e st a k =
