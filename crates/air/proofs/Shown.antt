@@ -1,5 +1,5 @@
 -- What the monitor shows at each place, and what the calls of a link come to.
-use Rattle.std.proofs.Common.{◌≡◌, ℕ, ◌≤◌, cond, eqb, List, length, None, Ok, Err, Result, sym, ap, ◌∙◌, subst, arith}
+use Rattle.std.proofs.Common.{◌≡◌, ℕ, ◌≤◌, cond, eqb, List, length, None, Ok, Err, Result, sym, ap, ◌∙◌, subst}
 use Rattle.pdu.specs.declared.refusal.Refusal.{Refusal}
 use Rattle.message.specs.Results.{and_then}
 use Rattle.contents.specs.declared.contents.Contents.{Contents}

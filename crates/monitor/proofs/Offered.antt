@@ -1,5 +1,5 @@
 -- An offer, from what was read and heard of it.
-use Rattle.std.proofs.Common.{◌≡◌, ℕ, Bool, true, cond, List, Ok, Err, Result, sym, ap, ◌∙◌, subst, inl, inr, arith}
+use Rattle.std.proofs.Common.{◌≡◌, ℕ, Bool, true, cond, List, Ok, Err, Result, sym, ap, ◌∙◌, subst, inl, inr}
 use Rattle.std.proofs.lemmas.Bool.{and_parts, cases_Bool}
 use Rattle.pdu.specs.declared.refusal.Refusal.{Refusal}
 use Rattle.pdu.specs.declared.refusal.Refusal.TheVariants.{UnlawfulFrame}

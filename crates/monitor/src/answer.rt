@@ -8,5 +8,5 @@ use gatherer::answer::Answer;
 pub fn answer_number(answer: Option<Answer>) -> u8
     ensures { result ≡ number_of answer }
 {
-    answer.map_or(0, |answer| answer.number())
+    answer.map_or(0, u8::from)
 }

@@ -1,4 +1,4 @@
-use Rattle.std.proofs.Common.{◌≡◌, ℕ, Some, Ok, Option, sym, refl, ap, subst, arith}
+use Rattle.std.proofs.Common.{◌≡◌, Some, Ok, Option, sym, refl, ap, subst}
 use Rattle.std.specs.Result.{result_ok}
 use Rattle.pdu.specs.declared.pdu.Pdu.{Pdu}
 use Rattle.transport.specs.Transport.{read_with}
