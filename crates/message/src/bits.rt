@@ -11,7 +11,7 @@ pub(crate) fn field_of(payload: u64, many: u32, following: u32) -> u64
     (payload >> following) % (1 << many)
 }
 
-// The signed number that a field holds, of which half the values are below zero.
+// The signed number that a field holds, of which half the values are below zero. No cast: fields have 8, 11 or 22 bits.
 pub(crate) fn to_signed(n: u64, half: u32) -> i32
     requires { (half < 2 ^ 30) × (n < 2 * half) }
     ensures { result ≡ signed half n }

@@ -83,11 +83,9 @@ impl LocationHalf {
         } else {
             LocationHalf::Longitude(Half::parse(payload))
         };
-        if half.is_in_range() {
-            Ok(half)
-        } else {
-            Err(Refusal::OutOfRange)
-        }
+        half.is_in_range()
+            .then_some(half)
+            .ok_or(Refusal::OutOfRange)
     }
 
     pub(crate) fn payload(self) -> Result<u64, Refusal>

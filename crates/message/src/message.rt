@@ -41,9 +41,9 @@ impl Message {
     fn parse_sized(number: u8, payload: u64) -> Result<Message, Refusal>
         ensures { result ≡ message_of number payload }
     {
-        match Place::with_number(number) {
-            Some(place) => Ok(Message::Frame(place, payload)),
-            None => Message::parse_single(number, payload),
+        match Place::try_from(number) {
+            Ok(place) => Ok(Message::Frame(place, payload)),
+            Err(_) => Message::parse_single(number, payload),
         }
     }
 
@@ -69,7 +69,7 @@ impl Message {
         match self {
             Message::StationId(_) => 0,
             Message::ShortName(_) => 1,
-            Message::Frame(place, _) => place.number(),
+            Message::Frame(place, _) => u8::from(place),
             Message::Location(_) => 4,
             Message::Service(_) => 6,
             Message::Parameter(_) => 7,
@@ -98,9 +98,7 @@ impl Message {
 fn whole_area(payload: u64) -> Result<u64, Refusal>
     ensures { result ≡ in_range (nat_lt payload (2 ^ 58)) payload }
 {
-    if payload < 1 << 58 {
-        Ok(payload)
-    } else {
-        Err(Refusal::OutOfRange)
-    }
+    (payload < 1 << 58)
+        .then_some(payload)
+        .ok_or(Refusal::OutOfRange)
 }

@@ -77,11 +77,9 @@ impl Parameter {
         ensures value { result ≡ in_range (parameter_in_range self) (parameter_packed self) }
         ensures read_again { (p : ℕ) → result ≡ Ok p → (p < 2 ^ 22) × (parameter_of p ≡ self) }
     {
-        if self.is_in_range() {
-            Ok(self.packed())
-        } else {
-            Err(Refusal::OutOfRange)
-        }
+        self.is_in_range()
+            .then(|| self.packed())
+            .ok_or(Refusal::OutOfRange)
     }
 
     fn packed(self) -> u64

@@ -55,11 +55,9 @@ impl Service {
         ensures value { result ≡ in_range (service_in_range self) (service_packed self) }
         ensures read_again { (p : ℕ) → result ≡ Ok p → (p < 2 ^ 27) × (service_of p ≡ Ok self) }
     {
-        if self.is_in_range() {
-            Ok(self.packed())
-        } else {
-            Err(Refusal::OutOfRange)
-        }
+        self.is_in_range()
+            .then(|| self.packed())
+            .ok_or(Refusal::OutOfRange)
     }
 
     fn packed(self) -> u64

@@ -26,8 +26,5 @@ const SIZES: [Option<u8>; 16] = [
 pub fn payload_size(number: u8) -> Option<u8>
     ensures { result ≡ size_of number }
 {
-    if number > 15 {
-        return None;
-    }
-    SIZES[number as usize]
+    SIZES.get(usize::from(number)).copied().flatten()
 }

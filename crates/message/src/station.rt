@@ -111,10 +111,7 @@ impl Character {
     pub fn symbol(self) -> Option<char>
         ensures { result ≡ symbol_of self.0 }
     {
-        if self.0 > 31 {
-            return None;
-        }
-        CHARACTERS[self.0 as usize]
+        CHARACTERS.get(usize::from(self.0)).copied().flatten()
     }
 }
 
@@ -172,11 +169,9 @@ impl ShortName {
             ),
             extension,
         };
-        if name.is_in_range() {
-            Ok(name)
-        } else {
-            Err(Refusal::OutOfRange)
-        }
+        name.is_in_range()
+            .then_some(name)
+            .ok_or(Refusal::OutOfRange)
     }
 
     pub(crate) fn payload(self) -> Result<u64, Refusal>

@@ -67,7 +67,7 @@ impl Refusal {
 // The number, then the words, as "12: the check differs".
 impl fmt::Display for Refusal {
     fn fmt<W: fmt::Write>(&self, f: &mut fmt::Formatter<W>) -> fmt::Result {
-        let number = self.number();
+        let number = u8::from(*self);
         let phrase = self.phrase();
         write!(f, "{number}: {phrase}")
     }
