@@ -28,9 +28,9 @@ pub record Stands {S T : Type 0} (m : Meaning S T) (s : S) (o : Option (RecordOf
 
 -- a place on air has an accepted record
 accepted_if_on_air : {T : Type 0} (h : List (Call T)) → on_air h ≡ true → last_accepted h ≡ None → ⊥
-accepted_if_on_air [] on e = let z : ◌≡◌ {A = ℕ} 0 1 = cc in omega arith
-accepted_if_on_air (stored r ∷ h) on e = let z : ◌≡◌ {A = ℕ} 0 1 = cc in omega arith
-accepted_if_on_air (withdrawn ∷ h) on e = let z : ◌≡◌ {A = ℕ} 0 1 = cc in omega arith
+accepted_if_on_air [] on e = cc
+accepted_if_on_air (stored r ∷ h) on e = cc
+accepted_if_on_air (withdrawn ∷ h) on e = cc
 accepted_if_on_air (drawn ∷ h) on e = accepted_if_on_air h on e
 
 -- the latest change's sequence number, once more
@@ -97,5 +97,5 @@ module _ {S T : Type 0} (m : Meaning S T) (s : S) where
             let due : frame_drawn m s h ≡ Some (get_or frames next 0) = rw (on, k.changes_are) refl in
             let is : get_or frames next 0 ≡ x = (let f : ◌≡◌ {A = Option ℕ} (Some (get_or frames next 0)) (Some x) = sym due ∙ e in cc) in
             subst (λ (y : ℕ). m.lawful s y ≡ true) is (laws.cut_lawful s k.latest q next fit (mod-lt (frames_given h) (omega arith))))
-        | inr off ↦ absurd (let none : frame_drawn m s h ≡ None = rw off refl in let z : ◌≡◌ {A = ℕ} 0 1 = cc (none, e) in omega arith)
+        | inr off ↦ absurd (let none : frame_drawn m s h ≡ None = rw off refl in cc (none, e))
       ]

@@ -33,7 +33,7 @@ module _ {S T : Type 0} (m : Meaning S T) (laws : Laws m) (s : S) (c : CurrentOf
 -- one more draw, and the frame after the next is next
 steps : {S T : Type 0} (m : Meaning S T) (s : S) (cs : List (RecordOf T)) (n : ℕ) (c : CurrentOf T) → current_after m s cs n ≡ Some c → 0 < length (m.cut s c.«record» c.sequence) →
     current_after m s cs (n + 1) ≡ Some (advanced_in (length (m.cut s c.«record» c.sequence)) c)
-steps m s [] n c e l = absurd (let z : ◌≡◌ {A = ℕ} 0 1 = cc in omega arith)
+steps m s [] n c e l = absurd cc
 steps {S} {T} m s (r ∷ rs) n c e l =
     let q = sequence_after m rs in
     let xs = m.cut s r q in
@@ -45,11 +45,11 @@ steps {S} {T} m s (r ∷ rs) n c e l =
 
 -- what is on air is held
 aired : {T : Type 0} (o : Option (Current T)) (c : Current T) → aired_in o ≡ Some c → (c.on_air ≡ true) × (o ≡ Some c)
-aired None c e = absurd (let z : ◌≡◌ {A = ℕ} 0 1 = cc in omega arith)
+aired None c e = absurd cc
 aired (Some d) c e = let f = cond_some d.on_air d c e in (ap (λ v. v.on_air) (sym f.1) ∙ f.0, ap Some f.1)
 
 none_if_false : {A : Type 0} (b : Bool) (x : A) → cond b (Some x) None ≡ None → b ≡ false
-none_if_false true x e = absurd (let z : ◌≡◌ {A = ℕ} 0 1 = cc in omega arith)
+none_if_false true x e = absurd cc
 none_if_false false x e = refl
 
 not_aired : {T : Type 0} (o : Option (Current T)) → aired_in o ≡ None → held_on_air o ≡ false
@@ -83,8 +83,8 @@ module _ {S T : Type 0} (m : Meaning S T) (s : S) (h : List (Call T)) (p : Place
       let a = aired p.current v e in
       let c = current_view v in
       let f = on_air_fits laws c (sym k.on_air_is ∙ ap held_on_air a.1 ∙ a.0) (sym k.current_is ∙ ap held_view a.1) in (
-        (λ none. let is = ap (λ v. result_ok (count_due m v c.«record»)) k.family_is ∙ ap result_ok (count_due_lem m laws s c f) in let z : ◌≡◌ {A = ℕ} 0 1 = cc (none, is) in omega arith),
-        (λ none. let is = ap (λ v. result_ok (frame_due m v c.«record» c.sequence c.next)) k.family_is ∙ ap result_ok (frame_due_lem m laws s c f) in let z : ◌≡◌ {A = ℕ} 0 1 = cc (none, is) in omega arith),
+        (λ none. let is = ap (λ v. result_ok (count_due m v c.«record»)) k.family_is ∙ ap result_ok (count_due_lem m laws s c f) in cc (none, is)),
+        (λ none. let is = ap (λ v. result_ok (frame_due m v c.«record» c.sequence c.next)) k.family_is ∙ ap result_ok (frame_due_lem m laws s c f) in cc (none, is)),
       )
 
 -- p is the place as found, and p' as left

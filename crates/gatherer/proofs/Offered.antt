@@ -20,7 +20,7 @@ lawful_if_taken m s x r a is e =
     let P : Bool → Type 0 = λ b. cond b None (Some UnlawfulFrame) ≡ refusal_in r → b ≡ true in
     let go : (b : Bool) → P b = λ b. elim b as P [
       | true ↦ λ f. refl
-      | false ↦ λ f. absurd (let g : Some UnlawfulFrame ≡ None = f ∙ ap refusal_in is in let z : ◌≡◌ {A = ℕ} 0 1 = cc in omega arith)
+      | false ↦ λ f. absurd (let g : Some UnlawfulFrame ≡ None = f ∙ ap refusal_in is in cc)
     ] in
     go (m.lawful s x) (sym e)
 
@@ -33,11 +33,11 @@ counted false times before after e f = omega arith
 pub answered : {T : Type 0} (before : Option (RecordOf T)) (o : Outcome T) (a : Answer) → Err a ≡ attempt_due o → (a ≡ answer_to before o) × (before ≡ shown_after before o) × (eqb (number_of a) 2 ≡ false)
 answered before not_full a e = let is : a ≡ Incomplete = cc in (is, refl, rw is refl)
 answered before no_record a e = let is : a ≡ DoesNotJoin = cc in (is, refl, rw is refl)
-answered before (joins_to r) a e = absurd (let z : ◌≡◌ {A = ℕ} 0 1 = cc in omega arith)
+answered before (joins_to r) a e = absurd cc
 
 pub joined : {T : Type 0} (o : Outcome T) (r : RecordOf T) → Ok r ≡ attempt_due o → o ≡ joins_to r
-joined not_full r e = absurd (let z : ◌≡◌ {A = ℕ} 0 1 = cc in omega arith)
-joined no_record r e = absurd (let z : ◌≡◌ {A = ℕ} 0 1 = cc in omega arith)
+joined not_full r e = absurd cc
+joined no_record r e = absurd cc
 joined (joins_to q) r e = let is : q ≡ r = cc in ap joins_to is
 
 -- what a full series comes to

@@ -17,16 +17,16 @@ fitting r found answer left a b l = let t = le-leb (length r.text) (length found
 
 -- what is copied is a text that is due
 copied : {T : Type 0} (o : Option (RecordOf T)) (found : List ℕ) (n : ℕ) → length_due o found ≡ Ok n → (r : RecordOf T) × (o ≡ Some r) × (length r.text ≡ n) × (buffer_due o found ≡ at_front r.text found)
-copied None found n e = absurd (let z : ◌≡◌ {A = ℕ} 0 1 = cc in omega arith)
+copied None found n e = absurd cc
 copied (Some r) found n e =
     elim (cases_Bool (leb (length r.text) (length found))) [
       | inl t ↦ (let f : ◌≡◌ {A = Result ℕ Refusal} (Ok (length r.text)) (Ok n) = rw t at e in (r, refl, (let k : length r.text ≡ n = cc in k), rw t refl))
-      | inr t ↦ (let f : ◌≡◌ {A = Result ℕ Refusal} (Err BufferShort) (Ok n) = rw t at e in absurd (let z : ◌≡◌ {A = ℕ} 0 1 = cc in omega arith))
+      | inr t ↦ (let f : ◌≡◌ {A = Result ℕ Refusal} (Err BufferShort) (Ok n) = rw t at e in absurd cc)
     ]
 
 -- a head that is answered is due
 answered : {T : Type 0} (o : Option (RecordOf T)) (head : T) → head_due o ≡ Ok head → (r : RecordOf T) × (o ≡ Some r) × (r.head ≡ head)
-answered None head e = absurd (let z : ◌≡◌ {A = ℕ} 0 1 = cc in omega arith)
+answered None head e = absurd cc
 answered (Some r) head e = (r, refl, (let k : r.head ≡ head = cc in k))
 
 module _ {S T : Type 0} (m : Meaning S T) (laws : Laws m) (s : S) (h : List Event) (o : Option (RecordOf T)) (is : o ≡ record_due m s h) where

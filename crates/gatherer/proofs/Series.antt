@@ -9,7 +9,7 @@ use Rattle.gatherer.specs.Promises.{In}
 module _ {S T : Type 0} (m : Meaning S T) (s : S) where
   -- the latest frame of number i is one of the series, and has the number i
   pub latest_is : (i x : ℕ) (xs : List ℕ) → latest_frame m s i xs ≡ Some x → In x xs × (m.number s x ≡ i)
-  latest_is i x [] e = absurd (let z : ◌≡◌ {A = ℕ} 0 1 = cc in omega arith)
+  latest_is i x [] e = absurd cc
   latest_is i x (y ∷ ys) e =
       elim (cases_eq (m.number s y) i) [
         | inl n ↦ (let t : eqb (m.number s y) i ≡ true = eq-eqb _ _ n in

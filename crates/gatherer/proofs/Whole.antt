@@ -15,8 +15,8 @@ in_append x y (z ∷ zs) (inl e) = inl (inl e)
 in_append x y (z ∷ zs) (inr i) = elim (in_append x y zs i) [ inl k ↦ inl (inr k) | inr e ↦ inr e ]
 
 in_appended : (o : Option (List ℕ)) (p : Option ℕ) (ys : List ℕ) (x : ℕ) → appended o p ≡ Some ys → In x ys → ((zs : List ℕ) × (o ≡ Some zs) × In x zs) ⊎ (p ≡ Some x)
-in_appended None p ys x e i = absurd (let z : ◌≡◌ {A = ℕ} 0 1 = cc in omega arith)
-in_appended (Some zs) None ys x e i = absurd (let z : ◌≡◌ {A = ℕ} 0 1 = cc in omega arith)
+in_appended None p ys x e i = absurd cc
+in_appended (Some zs) None ys x e i = absurd cc
 in_appended (Some zs) (Some y) ys x e i =
     let f : ys ≡ zs ++ (y ∷ []) = cc in
     elim (in_append x y zs (subst (In x) f i)) [ inl k ↦ inl (zs, refl, k) | inr same ↦ inr (ap Some (sym same)) ]
@@ -32,15 +32,15 @@ module _ {S T : Type 0} (m : Meaning S T) (s : S) where
       ]
 
   full_in : (xs : List ℕ) (o : Option ℕ) (ys : List ℕ) (x : ℕ) → frames_up_to m s xs o ≡ Some ys → In x ys → In x xs
-  full_in xs None ys x e i = absurd (let z : ◌≡◌ {A = ℕ} 0 1 = cc in omega arith)
+  full_in xs None ys x e i = absurd cc
   full_in xs (Some n) ys x e i = below_in xs n ys x e i
 
   -- a series that joins to a record is full
   joins_full : (o : Option (List ℕ)) (r : RecordOf T) → outcome m s o ≡ joins_to r → (ys : List ℕ) × (o ≡ Some ys) × (m.joined s ys ≡ Some r)
-  joins_full None r e = absurd (let z : ◌≡◌ {A = ℕ} 0 1 = cc in omega arith)
+  joins_full None r e = absurd cc
   joins_full (Some ys) r e =
       let P : Option (RecordOf T) → Type 0 = λ o. joined_outcome o ≡ joins_to r → o ≡ Some r in
-      let go : (o : Option (RecordOf T)) → P o = λ o. elim o as P [ None ↦ λ f. absurd (let z : ◌≡◌ {A = ℕ} 0 1 = cc in omega arith) | Some q ↦ λ f. cc ] in
+      let go : (o : Option (RecordOf T)) → P o = λ o. elim o as P [ None ↦ λ f. absurd cc | Some q ↦ λ f. cc ] in
       (ys, refl, go (m.joined s ys) e)
 
   -- a run of frames under one sequence number ends a history
@@ -104,8 +104,8 @@ module _ {S T : Type 0} (m : Meaning S T) (laws : Laws m) (s : S) where
   }
 
   pub whole : (h : List Event) (r : RecordOf T) → record_due m s h ≡ Some r → AcceptedWhole m s h r
-  whole [] r e = absurd (let z : ◌≡◌ {A = ℕ} 0 1 = cc in omega arith)
-  whole (forgotten ∷ h) r e = absurd (let z : ◌≡◌ {A = ℕ} 0 1 = cc in omega arith)
+  whole [] r e = absurd cc
+  whole (forgotten ∷ h) r e = absurd cc
   whole (accepted x ∷ h) r e =
       let P : Outcome T → Type 0 = λ o. attempted m s (accepted x ∷ h) ≡ o → shown_after (record_due m s h) o ≡ Some r → AcceptedWhole m s (accepted x ∷ h) r in
       let go : (o : Outcome T) → P o = λ o. elim o as P [

@@ -19,7 +19,7 @@ bytes_of_text t i =
 
 not_refused : {A : Type 0} (o : Option Refusal) (a : Result A Refusal) (x : A) → unless o a ≡ Ok x → (o ≡ None) × (a ≡ Ok x)
 not_refused None a x e = (refl, e)
-not_refused (Some f) a x e = absurd (let z : ◌≡◌ {A = ℕ} 0 1 = cc in omega arith)
+not_refused (Some f) a x e = absurd cc
 
 -- a frame that is given is that of the cut
 pub given : (s : Two) (r : RecordOf Bool) (q i x : ℕ) → frame_due meaning_of_two s r q i ≡ Ok x → (meaning_of_two.refusal s r ≡ None) × (q < 4) × (x ≡ get_or (meaning_of_two.cut s r q) i 0)
@@ -28,7 +28,7 @@ given s r q i x e =
     elim (cases_Bool (ltb q 4 && ltb i 2)) [
       | inl t ↦ (let f : ◌≡◌ {A = Result ℕ Refusal} (Ok (get_or (meaning_of_two.cut s r q) i 0)) (Ok x) = rw t at n.1 in
           (n.0, ltb-true _ _ (and_parts (ltb q 4) (ltb i 2) t).0, (let k : x ≡ get_or (meaning_of_two.cut s r q) i 0 = cc in k)))
-      | inr t ↦ (let f : ◌≡◌ {A = Result ℕ Refusal} (Err OutOfRange) (Ok x) = rw t at n.1 in absurd (let z : ◌≡◌ {A = ℕ} 0 1 = cc in omega arith))
+      | inr t ↦ (let f : ◌≡◌ {A = Result ℕ Refusal} (Err OutOfRange) (Ok x) = rw t at n.1 in absurd cc)
     ]
 
 pub both_heard : (s : Two) (h : List Event) (r : RecordOf Bool) (q a b : ℕ) → Fit meaning_of_two s r q → a ≡ get_or (meaning_of_two.cut s r q) 0 0 → b ≡ get_or (meaning_of_two.cut s r q) 1 0 → HeardWhole meaning_of_two s (accepted_after (a ∷ b ∷ []) h) r

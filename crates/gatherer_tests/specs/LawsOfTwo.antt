@@ -11,10 +11,10 @@ use Rattle.gatherer_tests.specs.Two.{flag, refusal_of_two, is_cut, joined_of_two
 
 none_then : (b : Bool) (x : Option Refusal) (e : Refusal) → cond b x (Some e) ≡ None → (b ≡ true) × (x ≡ None)
 none_then true x e h = (refl, h)
-none_then false x e h = absurd (let z : ◌≡◌ {A = ℕ} 0 1 = cc in omega arith)
+none_then false x e h = absurd cc
 
 none_else : (b : Bool) (e : Refusal) → cond b (Some e) None ≡ None → b ≡ false
-none_else true e h = absurd (let z : ◌≡◌ {A = ℕ} 0 1 = cc in omega arith)
+none_else true e h = absurd cc
 none_else false e h = refl
 
 -- a lawful record has one byte that is not 0 as its text
@@ -84,12 +84,12 @@ second_again : (a b : ℕ) → a / 256 % 2 ≡ 0 → b / 256 ≡ a / 256 + 1 →
 second_again a b e f = omega arith
 
 joined_is_cut : (s : Two) (r : RecordOf Bool) (xs : List ℕ) → joined_of_two xs ≡ Some r → (q : ℕ) × Fit meaning_of_two s r q × (xs ≡ meaning_of_two.cut s r q)
-joined_is_cut s r [] e = absurd (let z : ◌≡◌ {A = ℕ} 0 1 = cc in omega arith)
-joined_is_cut s r (a ∷ []) e = absurd (let z : ◌≡◌ {A = ℕ} 0 1 = cc in omega arith)
-joined_is_cut s r (a ∷ b ∷ x ∷ xs) e = absurd (let z : ◌≡◌ {A = ℕ} 0 1 = cc in omega arith)
+joined_is_cut s r [] e = absurd cc
+joined_is_cut s r (a ∷ []) e = absurd cc
+joined_is_cut s r (a ∷ b ∷ x ∷ xs) e = absurd cc
 joined_is_cut s r (a ∷ b ∷ []) e =
     elim (cases_Bool (is_cut a b)) [
-      | inr f ↦ (let k : ◌≡◌ {A = Option (RecordOf Bool)} None (Some r) = rw f at e in absurd (let z : ◌≡◌ {A = ℕ} 0 1 = cc in omega arith))
+      | inr f ↦ (let k : ◌≡◌ {A = Option (RecordOf Bool)} None (Some r) = rw f at e in absurd cc)
       | inl t ↦ (let k : ◌≡◌ {A = Option (RecordOf Bool)} (Some (record { head = (a % 256 == 1); text = (b % 256) ∷ [] })) (Some r) = rw t at e in
           let is : r ≡ record { head = (a % 256 == 1); text = (b % 256) ∷ [] } = cc in
           let p = and_parts _ (not (b % 256 == 0)) t in

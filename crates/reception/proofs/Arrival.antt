@@ -78,7 +78,7 @@ module _ {S T : Type 0} (m : Meaning S T) (s : S) where
       | inl e ↦ inr (heard, e)
       | inr j ↦ elim (k.every x j) [
         | inl f ↦ inl f
-        | inr never ↦ absurd (let e : false ≡ true = never.0 in let z : ◌≡◌ {A = ℕ} 0 1 = cc in omega arith)
+        | inr never ↦ absurd (let e : false ≡ true = never.0 in cc)
       ]
     ];
   }
@@ -131,7 +131,7 @@ module _ {S T : Type 0} (m : Meaning S T) (laws : Laws m) (s : S) where
       let no_other : (x : ℕ) → In x a.frames → In x frames = λ x i. turns_in_cut frames g n (omega arith) x (subst (In x) in_turns (a.no_other x i)) in
       let every : (x : ℕ) → In x frames → In x a.frames = λ x i. elim (a.every x (subst (In x) (sym in_turns) (each_in_turns frames g n enough_turns x i))) [
         | inl f ↦ f
-        | inr never ↦ absurd (let e : false ≡ true = never.0 in let z : ◌≡◌ {A = ℕ} 0 1 = cc in omega arith)
+        | inr never ↦ absurd (let e : false ≡ true = never.0 in cc)
       ] in
       let still : changes (card_calls since ++ h) ≡ r ∷ k.earlier = (kept m s h on (card_calls since) unbroken).same_changes ∙ k.changes_are in
       ap (record_due m s) a.events_are ∙ due_after m laws s r q fit a.frames a.earlier no_other every

@@ -28,8 +28,8 @@ module _ {S T : Type 0} (m : Meaning S T) (laws : Laws m) (s : S) (r : RecordOf 
 
     appended_in_cut : (n : ℕ) (o : Option (List ℕ)) (p : Option ℕ) (ys : List ℕ) → appended o p ≡ Some ys →
         ((zs : List ℕ) → o ≡ Some zs → (zs ≡ take n frames) × (n ≤ length frames)) → ((y : ℕ) → p ≡ Some y → (y ≡ get_or frames n 0) × (n < length frames)) → (ys ≡ take (suc n) frames) × (suc n ≤ length frames)
-    appended_in_cut n None p ys e f g = absurd (let z : ◌≡◌ {A = ℕ} 0 1 = cc in omega arith)
-    appended_in_cut n (Some zs) None ys e f g = absurd (let z : ◌≡◌ {A = ℕ} 0 1 = cc in omega arith)
+    appended_in_cut n None p ys e f g = absurd cc
+    appended_in_cut n (Some zs) None ys e f g = absurd cc
     appended_in_cut n (Some zs) (Some y) ys e f g =
         let before = (f zs refl).0 in
         let here = g y refl in

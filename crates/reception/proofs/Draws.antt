@@ -58,11 +58,11 @@ module _ {S T : Type 0} (m : Meaning S T) (laws : Laws m) (s : S) where
               fit = fit;
               in_cut = subst (λ (y : ℕ). In y frames) is (member frames next (mod-lt (frames_given h) (omega arith)));
             })
-        | inr off ↦ absurd (let none : frame_drawn m s h ≡ None = rw off refl in let z : ◌≡◌ {A = ℕ} 0 1 = cc (none, e) in omega arith)
+        | inr off ↦ absurd (let none : frame_drawn m s h ≡ None = rw off refl in cc (none, e))
       ]
 
   pub frame_last_drawn_lem : (h : List (Call T)) (x : ℕ) → LawfulRecords m s h → frame_last_drawn m s h ≡ Some x → FrameOf m s (changes h) (changes_at_draw h) x
-  frame_last_drawn_lem [] x l e = absurd (let z : ◌≡◌ {A = ℕ} 0 1 = cc in omega arith)
+  frame_last_drawn_lem [] x l e = absurd cc
   frame_last_drawn_lem (drawn ∷ h) x l e = frame_drawn_lem h x l e
   frame_last_drawn_lem (withdrawn ∷ h) x l e = frame_last_drawn_lem h x l e
   frame_last_drawn_lem (stored r ∷ h) x l e =

@@ -20,13 +20,13 @@ pub record Expects {S T : Type 0} (m : Meaning S T) (s : S) (r : RecordOf T) (ea
   pub always_joined : AlwaysJoined m s e
 
 incomplete_joined : ◌≡◌ {A = Answer} Incomplete DoesNotJoin → ⊥
-incomplete_joined e = let z : ◌≡◌ {A = ℕ} 0 1 = cc in omega arith
+incomplete_joined e = cc
 
 module _ {T : Type 0} (r : RecordOf T) (before : Option (RecordOf T)) where
   answer_joined : joined_answer before r ≡ DoesNotJoin → ⊥
   answer_joined =
       let P : Bool → Type 0 = λ b. cond b ShownBefore NewlyShown ≡ DoesNotJoin → ⊥ in
-      elim (is_equal_to before r) as P [ true ↦ λ e. (let z : ◌≡◌ {A = ℕ} 0 1 = cc in omega arith) | false ↦ λ e. (let z : ◌≡◌ {A = ℕ} 0 1 = cc in omega arith) ]
+      elim (is_equal_to before r) as P [ true ↦ λ e. (cc) | false ↦ λ e. (cc) ]
 
   module _ (earlier shown : List (RecordOf T)) where
     shown_now : Within shown earlier → Within (with_newly_shown (joined_answer before r) (Some r) shown) (r ∷ earlier)

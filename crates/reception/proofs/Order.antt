@@ -40,7 +40,7 @@ module _ {S T : Type 0} (m : Meaning S T) (laws : Laws m) (s : S) where
   HeardSoFar cs d e (k ∷ ks) = (k ≤ d) × HeardLast cs e k
 
   none_among : (e : List Event) (cs : List (RecordOf T)) → record_due m s e ≡ None → (o : RecordOf T) → record_due m s e ≡ Some o → Among o cs
-  none_among e cs none o some = absurd (let z : ◌≡◌ {A = ℕ} 0 1 = cc in omega arith)
+  none_among e cs none o some = absurd cc
 
   shown_within : (r : RecordOf T) (earlier : List (RecordOf T)) (q : ℕ) (e : List Event) → Expects m s r earlier q e → Within (newly_shown m s e) (r ∷ earlier)
   shown_within r earlier q e k = elim k.so_far [ inl w ↦ omitted w | inr w ↦ w.1 ]

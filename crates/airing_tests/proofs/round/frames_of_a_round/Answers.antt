@@ -18,7 +18,7 @@ returns c s first second e i l =
     let r = record_view c.args.record in
     let k = c.new-place.ensures in
     let st = c.store.ensures in
-    let lawful : meaning_of_two.refusal s r ≡ None = none_if _ (λ f is. let ok = sym c.in_ok-store.was ∙ st.refusal f is in let z : ◌≡◌ {A = ℕ} 0 1 = cc in omega arith) in
+    let lawful : meaning_of_two.refusal s r ≡ None = none_if _ (λ f is. let ok = sym c.in_ok-store.was ∙ st.refusal f is in cc) in
     let on = st.accepted _ [] k lawful in
     let one = c.draw-first.ensures.drawn _ (stored r ∷ []) on.agrees in
     let two = c.draw-second.ensures.drawn _ (drawn ∷ stored r ∷ []) one.agrees in

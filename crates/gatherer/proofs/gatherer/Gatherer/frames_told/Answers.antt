@@ -12,4 +12,4 @@ returns-in_err-last-clause-due g c s h k =
     let told = last_told m s x h k.frames_lawful (sym (k.slots_are 0 (omega arith)) ∙ c.in_ok-first.was) in
     let e : result_ok c.last_number.result ≡ Some (m.last s x) = ap result_ok (c.last_number.ensures ∙ ap (λ f. last_due m f x) k.family_is ∙ told) in
     let none = c.in_err-last.ensures.value in
-    absurd (let z : ◌≡◌ {A = ℕ} 0 1 = cc in omega arith)
+    absurd cc
