@@ -1,1 +1,3 @@
 pub mod Hexadecimal
+pub mod Printed
+pub mod Spelled

@@ -1,5 +1,10 @@
-// Bytes spelled by hexadecimal digits, read a character at a time.
+// Bytes spelled by hexadecimal digits: read from a text, and printed.
 #![tactic(auto)]
+
+pub mod printed;
+#[cfg(test)]
+mod tests;
+pub mod text;
 
 ghost use Rattle.std.specs.Prelude.{◌≡◌, ◌<◌, IfSome};
 ghost use Rattle.hexadecimal.specs.Hexadecimal.{digit_of, reading_of};

@@ -1,0 +1,73 @@
+// The bytes that a text spells.
+ghost use Rattle.std.specs.Prelude.{◌≡◌, [], ◌⊎◌, None, Ok, Err, IfOk, IfErr};
+ghost use Rattle.std.specs.Str.{chars};
+ghost use Rattle.hexadecimal.specs.Spelled.{spelled};
+ghost use Rattle.hexadecimal.specs.declared.text.TextError.TheVariants.{OutOfMemory};
+
+use crate::{Reading, read_character};
+use std::alloc::{AllocError, AllocFailed, Global};
+use std::error::Error;
+use std::fmt;
+
+// Why a text spells no bytes.
+#[derive(Clone, Copy, PartialEq, Eq, Debug)]
+pub enum TextError {
+    // The column counts characters from 1.
+    NoDigit { column: usize, found: char },
+    // So many digits do not make whole bytes.
+    OddDigits(usize),
+    OutOfMemory,
+}
+
+impl fmt::Display for TextError {
+    fn fmt<W: fmt::Write>(&self, f: &mut fmt::Formatter<W>) -> fmt::Result {
+        match self {
+            TextError::NoDigit { column, found } => {
+                write!(f, "'{found}' in column {column} is no hexadecimal digit")
+            }
+            TextError::OddDigits(count) => {
+                write!(f, "{count} hexadecimal digits do not make whole bytes")
+            }
+            TextError::OutOfMemory => write!(f, "{AllocError}"),
+        }
+    }
+}
+
+impl Error for TextError {}
+
+impl<T: Drop> From<AllocFailed<T>> for TextError {
+    ghost from_gives = { λ _ e. e ≡ OutOfMemory };
+
+    fn from(_e: AllocFailed<T>) -> TextError {
+        TextError::OutOfMemory
+    }
+}
+
+// The bytes, two digits each; blanks are passed over.
+pub fn bytes_of(alloc: Global, text: &str) -> Result<Vec<u8>, TextError>
+    ensures bytes { IfOk result (λ v. spelled 1 [] None (chars text.now) ≡ Ok v.items) }
+    ensures refused { IfErr result (λ e. (e ≡ OutOfMemory) ⊎ (spelled 1 [] None (chars text.now) ≡ Err e)) }
+{
+    let mut bytes = Vec::new(alloc);
+    let mut upper = None;
+    for (i, character) in text.chars().enumerate() {
+        match read_character(upper, character) {
+            Reading::Blank => {}
+            Reading::UpperDigit(digit) => upper = Some(digit),
+            Reading::Byte(byte) => {
+                bytes.push(byte)?;
+                upper = None;
+            }
+            Reading::NoDigit => {
+                return Err(TextError::NoDigit {
+                    column: i + 1,
+                    found: character,
+                });
+            }
+        }
+    }
+    match upper {
+        None => Ok(bytes),
+        Some(_) => Err(TextError::OddDigits(2 * bytes.len() + 1)),
+    }
+}
