@@ -1,12 +1,11 @@
 // Says what PDUs say: a line of hexadecimal digits for each, from standard input.
 #![tactic(auto)]
 
-mod line;
 mod words;
 
 use alert::alert::Alert;
 use anyhow::anyhow;
-use line::bytes_of;
+use hexadecimal::text::{TextError, bytes_of};
 use name::name::Name;
 use station_message::message::StationMessage;
 use std::env;
@@ -38,20 +37,19 @@ fn run(rt: &HostRuntime) -> anyhow::Result<()> {
     let Ok(alerts) = Alert::new(GENERATOR) else {
         return Err(anyhow!("the alert generator is not allowed"));
     };
-    let mut number: u64 = 0;
-    for line in rt.lines(rt.alloc()) {
-        number = number.saturating_add(1);
+    for (i, line) in rt.lines(rt.alloc()).enumerate() {
         let line = line?;
         if !line.trim().is_empty() {
-            say(rt, &alerts, number, line.as_str())?;
+            say(rt, &alerts, i.saturating_add(1), line.as_str())?;
         }
     }
     Ok(())
 }
 
 // Says what one line says, or what is wrong with it.
-fn say(rt: &HostRuntime, alerts: &Alert, number: u64, line: &str) -> anyhow::Result<()> {
-    match bytes_of(rt.alloc(), line)? {
+fn say(rt: &HostRuntime, alerts: &Alert, number: usize, line: &str) -> anyhow::Result<()> {
+    match bytes_of(rt.alloc(), line) {
+        Err(TextError::OutOfMemory) => return Err(TextError::OutOfMemory.into()),
         Err(wrong) => eprintln!(rt; "line {number}: {wrong}")?,
         Ok(bytes) => match read(&Name, &StationMessage, alerts, bytes.as_slice()) {
             Ok(contents) => {

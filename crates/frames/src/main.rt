@@ -9,6 +9,7 @@ use arguments::{bytes_in, number_in};
 use contents::contents::Contents;
 use family::family::Family;
 use family::text::{Record, Text};
+use hexadecimal::printed::Digits;
 use message::message::Message;
 use message::place::Place;
 use name::name::Name;
@@ -94,20 +95,12 @@ fn print_cut<F: Family>(
 ) -> anyhow::Result<()> {
     let sequence = number_in(rt.alloc(), sequence, "sequence number")?;
     let bytes = bytes_in(rt.alloc(), text)?;
-    let text = match Text::new(bytes.as_slice()) {
-        Ok(text) => text,
-        Err(refusal) => return refuse(rt, refusal),
-    };
+    let text = accepted(rt, Text::new(bytes.as_slice()))?;
     let record = Record { head, text };
-    let count = match family.frame_count(&record) {
-        Ok(count) => count,
-        Err(refusal) => return refuse(rt, refusal),
-    };
+    let count = accepted(rt, family.frame_count(&record))?;
     for i in 0..count {
-        match family.frame(&record, sequence, i) {
-            Ok(frame) => print_pdu(rt, place, frame)?,
-            Err(refusal) => return refuse(rt, refusal),
-        }
+        let frame = accepted(rt, family.frame(&record, sequence, i))?;
+        print_pdu(rt, place, frame)?;
     }
     Ok(())
 }
@@ -120,19 +113,19 @@ fn print_pdu(rt: &HostRuntime, place: Place, frame: u64) -> anyhow::Result<()> {
         time_locked: false,
         pair: 0,
     };
-    match contents.encode() {
-        Ok(pdu) => {
-            for byte in pdu.bytes {
-                print!(rt; "{byte:02X}")?;
-            }
-            println!(rt; "")?;
-            Ok(())
-        }
-        Err(refusal) => refuse(rt, refusal),
-    }
+    let pdu = accepted(rt, contents.encode())?;
+    let digits = Digits(&pdu.bytes);
+    println!(rt; "{digits}")?;
+    Ok(())
 }
 
-fn refuse(rt: &HostRuntime, refusal: Refusal) -> anyhow::Result<()> {
-    eprintln!(rt; "frames: the text is refused, {refusal}")?;
-    Err(anyhow!("refused"))
+// Tells a refusal, which ends the program.
+fn accepted<T>(rt: &HostRuntime, answer: Result<T, Refusal>) -> anyhow::Result<T> {
+    match answer {
+        Ok(value) => Ok(value),
+        Err(refusal) => {
+            eprintln!(rt; "frames: the text is refused, {refusal}")?;
+            Err(anyhow!("refused"))
+        }
+    }
 }
