@@ -9,7 +9,7 @@ use hexadecimal::text::{TextError, bytes_of};
 use name::name::Name;
 use station_message::message::StationMessage;
 use std::env;
-use transport::transport::read;
+use transport::families::Families;
 use words::Described;
 
 // The check of alerts divides by X^7 plus this.
@@ -48,10 +48,15 @@ fn run(rt: &HostRuntime) -> anyhow::Result<()> {
 
 // Says what one line says, or what is wrong with it.
 fn say(rt: &HostRuntime, alerts: &Alert, number: usize, line: &str) -> anyhow::Result<()> {
+    let families = Families {
+        name: &Name,
+        message: &StationMessage,
+        alert: alerts,
+    };
     match bytes_of(rt.alloc(), line) {
         Err(TextError::OutOfMemory) => return Err(TextError::OutOfMemory.into()),
         Err(wrong) => eprintln!(rt; "line {number}: {wrong}")?,
-        Ok(bytes) => match read(&Name, &StationMessage, alerts, bytes.as_slice()) {
+        Ok(bytes) => match families.read(bytes.as_slice()) {
             Ok(contents) => {
                 let described = Described {
                     contents,

@@ -21,8 +21,8 @@ pub fn with_bit_turned(pdu: Pdu, bit: u8) -> Pdu
 {
     let mut bytes = pdu.bytes;
     let i = usize::from(bit / 8);
-    if i < 10 {
-        bytes[i] = bytes[i] ^ (128 >> (bit % 8));
+    if i < bytes.len() {
+        bytes[i] ^= 128 >> (bit % 8);
     }
     Pdu { bytes }
 }
@@ -58,9 +58,10 @@ impl FadingBox {
         ensures value { result ≡ stepped self.old.state }
         ensures state { self.new.state ≡ stepped self.old.state }
     {
-        let product = u64::from(self.state) * 1_664_525 + 1_013_904_223;
-        let next = (product % 4_294_967_296) as u32;
-        self.state = next;
-        next
+        self.state = self
+            .state
+            .wrapping_mul(1_664_525)
+            .wrapping_add(1_013_904_223);
+        self.state
     }
 }
