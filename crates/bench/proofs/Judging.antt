@@ -4,7 +4,7 @@ use Rattle.std.proofs.lemmas.Bool.{eqb-true, leb-true, and_parts}
 use Rattle.family.specs.Meaning.{Laws}
 use Rattle.transport.specs.declared.head.Head.{Head}
 use Rattle.transport.specs.Families.{Families}
-use Rattle.card.specs.Due.{StationOf}
+use Rattle.card.specs.declared.station.Station.{Station}
 use Rattle.air.specs.Runs.{Step}
 use Rattle.air.proofs.Shown.{shows_texts}
 use Rattle.bench.specs.declared.bench.Bench.{Bench}
@@ -15,7 +15,7 @@ covered_if : (b : Bool) → cond b Covered NotCovered ≡ Covered → b ≡ true
 covered_if true e = refl
 covered_if false e = absurd (let z : ◌≡◌ {A = ℕ} 0 1 = cc in omega arith)
 
-module _ {N T M U E V : Type 0} (f : Families N T M U E V) (st : StationOf) (a : List (Step (Head T U V))) (b : Bench N M E T U V) where
+module _ {N T M U E V : Type 0} (f : Families N T M U E V) (st : Station) (a : List (Step (Head T U V))) (b : Bench N M E T U V) where
   pub shows_all : Laws f.name.meaning → Laws f.message.meaning → Laws f.alert.meaning → Ran f st a b → verdict_on b.tally ≡ Covered → ShowsAllChanges f a
   shows_all names messages alerts k e =
       let t = b.tally in

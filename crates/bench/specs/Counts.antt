@@ -3,7 +3,7 @@ use Rattle.std.specs.Prelude.{ℕ, ◌+◌, min, Bool, true, false, cond, ◌&&�
 use Rattle.pdu.specs.declared.refusal.Refusal.{Refusal}
 use Rattle.airing.specs.declared.stored.Stored.{Stored}
 use Rattle.airing.specs.declared.stored.Stored.TheVariants.{Changed, Unchanged}
-use Rattle.monitor.specs.declared.answer.OfferAnswer.{OfferAnswer}
+use Rattle.gatherer.specs.declared.answer.Answer.{Answer}
 use Rattle.fading.specs.declared.fade.Fade.{Fade}
 use Rattle.fading.specs.declared.fade.Fade.TheVariants.{Heard, Lost, Doubled, Turned}
 use Rattle.bench.specs.declared.tally.Changes.{Changes}
@@ -64,13 +64,13 @@ is_turned Doubled = false
 is_turned (Turned b) = true
 
 -- Whether an offer was made and accepted.
-abbrev pub is_accepted : Option (Result OfferAnswer Refusal) → Bool
+abbrev pub is_accepted : Option (Result (Option Answer) Refusal) → Bool
 is_accepted None = false
 is_accepted (Some (Ok a)) = true
 is_accepted (Some (Err e)) = false
 
 -- The counts after a PDU was drawn and met a fade, and its first copy had this answer.
-abbrev pub tally_after_pdu : Fade → Option (Result OfferAnswer Refusal) → Tally → Tally
+abbrev pub tally_after_pdu : Fade → Option (Result (Option Answer) Refusal) → Tally → Tally
 tally_after_pdu fade first t = record {
   drawn = stopped (t.drawn + 1);
   lost = counted_if (is_lost fade) t.lost;
@@ -81,7 +81,7 @@ tally_after_pdu fade first t = record {
 }
 
 -- The counts after a turned PDU, whose copy had this answer.
-abbrev pub turned_counted : Option (Result OfferAnswer Refusal) → Tally → Tally
+abbrev pub turned_counted : Option (Result (Option Answer) Refusal) → Tally → Tally
 turned_counted first t = record {
   drawn = t.drawn;
   lost = t.lost;

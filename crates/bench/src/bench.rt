@@ -6,7 +6,7 @@ use crate::tally::Tally;
 use air::link::Link;
 use fading::fade::Fade;
 use family::family::Family;
-use monitor::answer::OfferAnswer;
+use gatherer::answer::Answer;
 use pdu::pdu::Pdu;
 use pdu::refusal::Refusal;
 
@@ -21,8 +21,8 @@ pub struct Bench<N: Family, M: Family, E: Family> {
 pub struct Passage {
     pub pdu: Pdu,
     pub fade: Fade,
-    pub first: Option<Result<OfferAnswer, Refusal>>,
-    pub second: Option<Result<OfferAnswer, Refusal>>,
+    pub first: Option<Result<Option<Answer>, Refusal>>,
+    pub second: Option<Result<Option<Answer>, Refusal>>,
 }
 
 // Whether a run is one that the promise on shown texts speaks of.

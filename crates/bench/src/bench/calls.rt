@@ -1,27 +1,26 @@
 // The calls of a bench.
-ghost use Rattle.std.specs.Prelude.{◌≡◌, List, [], ◌∷◌, Some, Ok, Err};
+ghost use Rattle.std.specs.Prelude.{◌≡◌, [], Some, Ok, Err};
 ghost use Rattle.pdu.specs.declared.refusal.Refusal.{Refusal};
 ghost use Rattle.family.specs.Texts.{record_view};
-ghost use Rattle.transport.specs.declared.head.Head.{Head};
 ghost use Rattle.transport.specs.Families.{families};
-ghost use Rattle.card.specs.Due.{StationOf};
+ghost use Rattle.card.specs.declared.station.Station.{Station};
 ghost use Rattle.card.specs.Agrees.{Agrees as CardAgrees};
 ghost use Rattle.monitor.specs.Agrees.{Agrees as MonitorAgrees};
-ghost use Rattle.air.specs.Runs.{Step};
-ghost use Rattle.air.specs.Linked.{Linked};
+ghost use Rattle.air.specs.Linked.{InEveryHistory as InEveryLink};
 ghost use Rattle.bench.specs.Counts.{changes_after, tally_after_store, tally_after_pdu, turned_counted, nothing_counted};
-ghost use Rattle.bench.specs.Ran.{Ran, Opened, StoredSo, SentSo, PassedSo};
+ghost use Rattle.bench.specs.Ran.{Ran, InEveryHistory, Opened, StoredSo, SentSo, PassedSo};
 
 use crate::bench::{Bench, Passage};
 use crate::tally::{Changes, Tally};
 use air::link::Link;
 use airing::stored::Stored;
 use card::card::Card;
+use card::station::Station;
 use fading::fade::{Fade, with_bit_turned};
 use family::family::Family;
 use family::text::Record;
-use message::station::{ShortName, StationId};
-use monitor::answer::OfferAnswer;
+use gatherer::answer::Answer;
+use message::place::Place;
 use monitor::monitor::Monitor;
 use pdu::pdu::Pdu;
 use pdu::refusal::Refusal;
@@ -29,42 +28,25 @@ use transport::head::Head;
 
 impl<N: Family, M: Family, E: Family> Bench<N, M, E> {
     // A card and a monitor with the same families; a field of the station that is out of range is refused.
-    pub fn open(
-        station_id: StationId,
-        short_name: ShortName,
-        name: N,
-        message: M,
-        alert: E,
-    ) -> Result<Bench<N, M, E>, Refusal>
+    pub fn open(station: Station, name: N, message: M, alert: E) -> Result<Bench<N, M, E>, Refusal>
     where
         N: Copy,
         M: Copy,
         E: Copy,
-        ensures { Opened (families N.Family.meaning name M.Family.meaning message E.Family.meaning alert) (record { id = station_id; short_name = short_name }) result }
+        ensures { Opened (families N.Family.meaning name M.Family.meaning message E.Family.meaning alert) station result }
     {
-        let card = Card::open(station_id, short_name, name, message, alert)?;
+        let card = Card::open(station, name, message, alert)?;
         Ok(Bench::new(card, Monitor::open(name, message, alert)))
     }
 
     // A new card and a new monitor; nothing is counted yet.
     pub fn new(card: Card<N, M, E>, monitor: Monitor<N, M, E>) -> Bench<N, M, E>
-        ensures ran { (n : N) (m : M) (e : E) (st : StationOf) → CardAgrees (families N.Family.meaning n M.Family.meaning m E.Family.meaning e) st [] card → MonitorAgrees (families N.Family.meaning n M.Family.meaning m E.Family.meaning e) [] monitor → Ran (families N.Family.meaning n M.Family.meaning m E.Family.meaning e) st [] result }
+        ensures ran { (n : N) (m : M) (e : E) (st : Station) → CardAgrees (families N.Family.meaning n M.Family.meaning m E.Family.meaning e) st [] card → MonitorAgrees (families N.Family.meaning n M.Family.meaning m E.Family.meaning e) [] monitor → Ran (families N.Family.meaning n M.Family.meaning m E.Family.meaning e) st [] result }
         ensures tally { result.tally ≡ nothing_counted }
     {
         Bench {
             link: Link::new(card, monitor),
-            tally: Tally {
-                drawn: 0,
-                lost: 0,
-                doubled: 0,
-                turned: 0,
-                turned_accepted: 0,
-                changes: Changes {
-                    name: 0,
-                    message: 0,
-                    alert: 0,
-                },
-            },
+            tally: Tally::default(),
         }
     }
 
@@ -75,7 +57,7 @@ impl<N: Family, M: Family, E: Family> Bench<N, M, E> {
         record: Record<Head<N::Head, M::Head, E::Head>>,
     ) -> Result<Stored, Refusal>
         ensures unchanged { (x : Refusal) → result ≡ Err x → self.new ≡ self.old }
-        ensures due { (n : N) (m : M) (e : E) (st : StationOf) (a : List (Step (Head N.Head M.Head E.Head))) → Ran (families N.Family.meaning n M.Family.meaning m E.Family.meaning e) st a self.old → StoredSo (families N.Family.meaning n M.Family.meaning m E.Family.meaning e) st a number (record_view «record») result self.new }
+        ensures due { InEveryHistory N.Family.meaning M.Family.meaning E.Family.meaning self.old (λ f st a. StoredSo f st a number (record_view «record») result self.new) }
         ensures tally { self.new.tally ≡ tally_after_store number result self.old.tally }
     {
         let answer = self.link.store(number, record);
@@ -85,7 +67,7 @@ impl<N: Family, M: Family, E: Family> Bench<N, M, E> {
 
     // Draws a PDU and sends it through a fade to the monitor.
     pub fn pass(&mut self, fade: Fade) -> Result<Passage, Refusal>
-        ensures due { (n : N) (m : M) (e : E) (st : StationOf) (a : List (Step (Head N.Head M.Head E.Head))) → Ran (families N.Family.meaning n M.Family.meaning m E.Family.meaning e) st a self.old → PassedSo (families N.Family.meaning n M.Family.meaning m E.Family.meaning e) st a fade result self.new }
+        ensures due { InEveryHistory N.Family.meaning M.Family.meaning E.Family.meaning self.old (λ f st a. PassedSo f st a fade result self.new) }
         ensures tally { (p : Passage) → result ≡ Ok p → self.new.tally ≡ tally_after_pdu fade p.first self.old.tally }
     {
         let pdu = self.link.draw()?;
@@ -105,10 +87,10 @@ impl<N: Family, M: Family, E: Family> Bench<N, M, E> {
         pdu: Pdu,
         fade: Fade,
     ) -> (
-        Option<Result<OfferAnswer, Refusal>>,
-        Option<Result<OfferAnswer, Refusal>>,
+        Option<Result<Option<Answer>, Refusal>>,
+        Option<Result<Option<Answer>, Refusal>>,
     )
-        ensures sent { (n : N) (m : M) (e : E) (st : StationOf) (a : List (Step (Head N.Head M.Head E.Head))) → Linked (families N.Family.meaning n M.Family.meaning m E.Family.meaning e) st a self.old.link → self.old.link.pdu ≡ Some pdu → SentSo (families N.Family.meaning n M.Family.meaning m E.Family.meaning e) st a pdu.bytes fade result.0 result.1 self.new.link }
+        ensures sent { InEveryLink N.Family.meaning M.Family.meaning E.Family.meaning self.old.link (λ f st a. self.old.link.pdu ≡ Some pdu → SentSo f st a pdu.bytes fade result.0 result.1 self.new.link) }
         ensures tally { self.new.tally ≡ self.old.tally }
     {
         match fade {
@@ -129,7 +111,7 @@ impl<N: Family, M: Family, E: Family> Bench<N, M, E> {
 
 impl Tally {
     // Counts a PDU with its fade, and a turned one that was accepted.
-    fn count(&mut self, fade: Fade, first: Option<Result<OfferAnswer, Refusal>>)
+    fn count(&mut self, fade: Fade, first: Option<Result<Option<Answer>, Refusal>>)
         ensures { self.new ≡ tally_after_pdu fade first self.old }
     {
         self.drawn = self.drawn.saturating_add(1);
@@ -141,7 +123,7 @@ impl Tally {
         }
     }
 
-    fn count_turned(&mut self, first: Option<Result<OfferAnswer, Refusal>>)
+    fn count_turned(&mut self, first: Option<Result<Option<Answer>, Refusal>>)
         ensures { self.new ≡ turned_counted first self.old }
     {
         self.turned = self.turned.saturating_add(1);
@@ -156,14 +138,13 @@ impl Changes {
     fn count(&mut self, number: u8, answer: Result<Stored, Refusal>)
         ensures { self.new ≡ changes_after number answer self.old }
     {
-        let Ok(Stored::Changed) = answer else {
+        let (Ok(place), Ok(Stored::Changed)) = (Place::try_from(number), answer) else {
             return;
         };
-        match number {
-            2 => self.name = self.name.saturating_add(1),
-            5 => self.message = self.message.saturating_add(1),
-            9 => self.alert = self.alert.saturating_add(1),
-            _ => {}
+        match place {
+            Place::Name => self.name = self.name.saturating_add(1),
+            Place::Message => self.message = self.message.saturating_add(1),
+            Place::Alert => self.alert = self.alert.saturating_add(1),
         }
     }
 }

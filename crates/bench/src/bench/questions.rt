@@ -1,11 +1,8 @@
 // The questions to a bench, which alter nothing.
-ghost use Rattle.std.specs.Prelude.{◌≡◌, List};
-ghost use Rattle.transport.specs.declared.head.Head.{Head};
-ghost use Rattle.transport.specs.Families.{families};
-ghost use Rattle.card.specs.Due.{StationOf};
+ghost use Rattle.std.specs.Prelude.{◌≡◌};
 ghost use Rattle.monitor.specs.Agrees.{Agrees as MonitorAgrees};
-ghost use Rattle.air.specs.Runs.{Step, monitor_calls};
-ghost use Rattle.bench.specs.Ran.{Ran, ShowsAllChanges, few_at_each, verdict_on};
+ghost use Rattle.air.specs.Runs.{monitor_calls};
+ghost use Rattle.bench.specs.Ran.{InEveryHistory, ShowsAllChanges, few_at_each, verdict_on};
 ghost use Rattle.bench.specs.declared.bench.Verdict.TheVariants.{Covered};
 
 use crate::bench::{Bench, Verdict};
@@ -23,7 +20,7 @@ impl<N: Family, M: Family, E: Family> Bench<N, M, E> {
 
     // The monitor, for its questions.
     pub fn monitor(&self) -> &Monitor<N, M, E>
-        ensures { (n : N) (m : M) (e : E) (st : StationOf) (a : List (Step (Head N.Head M.Head E.Head))) → Ran (families N.Family.meaning n M.Family.meaning m E.Family.meaning e) st a self.now → MonitorAgrees (families N.Family.meaning n M.Family.meaning m E.Family.meaning e) (monitor_calls a) result.now }
+        ensures { InEveryHistory N.Family.meaning M.Family.meaning E.Family.meaning self.now (λ f st a. MonitorAgrees f (monitor_calls a) result.now) }
     {
         self.link.monitor()
     }
@@ -32,7 +29,7 @@ impl<N: Family, M: Family, E: Family> Bench<N, M, E> {
     // at each place are the texts of its changes, in their order, each change at most once.
     pub fn verdict(&self) -> Verdict
         ensures value { result ≡ verdict_on self.now.tally }
-        ensures shows { (n : N) (m : M) (e : E) (st : StationOf) (a : List (Step (Head N.Head M.Head E.Head))) → Ran (families N.Family.meaning n M.Family.meaning m E.Family.meaning e) st a self.now → result ≡ Covered → ShowsAllChanges (families N.Family.meaning n M.Family.meaning m E.Family.meaning e) a }
+        ensures shows { InEveryHistory N.Family.meaning M.Family.meaning E.Family.meaning self.now (λ f st a. result ≡ Covered → ShowsAllChanges f a) }
     {
         if self.tally.turned_accepted == 0 && self.tally.changes.are_few() {
             Verdict::Covered
