@@ -1,5 +1,5 @@
 -- The series of a history, and the latest frames in it.
-use Rattle.std.proofs.Common.{◌≡◌, ℕ, true, false, eqb, List, [], ◌∷◌, Some, Ok, Option, sym, refl, subst, inl, inr, arith}
+use Rattle.std.proofs.Common.{◌≡◌, ℕ, true, false, eqb, List, [], ◌∷◌, Some, Ok, Option, sym, refl, subst, inl, inr}
 use Rattle.std.proofs.lemmas.Bool.{cases_eq, eq-eqb, ne_eqb}
 use Rattle.family.specs.Meaning.{Meaning, last_due}
 use Rattle.gatherer.specs.Series.{Event, accepted, forgotten, frames_under, series, latest_frame}

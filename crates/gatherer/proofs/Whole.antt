@@ -1,5 +1,5 @@
 -- A record that is due was accepted whole.
-use Rattle.std.proofs.Common.{◌≡◌, ℕ, zero, suc, ◌⊎◌, List, [], ◌∷◌, ◌++◌, Some, None, Option, sym, refl, ap, ◌∙◌, subst, inl, inr, arith}
+use Rattle.std.proofs.Common.{◌≡◌, ℕ, zero, suc, ◌⊎◌, List, [], ◌∷◌, ◌++◌, Some, None, Option, sym, refl, ap, ◌∙◌, subst, inl, inr}
 use Rattle.std.proofs.lemmas.Bool.{cases_eq}
 use Rattle.family.specs.Meaning.{Meaning, RecordOf, Laws}
 use Rattle.gatherer.specs.Series.{Event, accepted, forgotten, frames_under, series, latest_frame, frames_told, frames_below, frames_up_to, appended, full_series}

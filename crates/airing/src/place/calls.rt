@@ -60,8 +60,14 @@ impl<F: Family> Place<F> {
         let current = self.record_on_air()?;
         // It is lawful, so the family refuses nothing here.
         let count = self.family.frame_count(&current.record).ok()?;
-        let frame = self.next_frame(&current)?;
-        self.advance(current, count);
+        let frame = self
+            .family
+            .frame(&current.record, current.sequence, current.next)
+            .ok()?;
+        self.current = Some(Current {
+            next: successor(current.next, count),
+            ..current
+        });
         Some(frame)
     }
 
@@ -78,7 +84,13 @@ impl<F: Family> Place<F> {
                 Stored::Unchanged
             }
             _ => {
-                self.replace(record);
+                let sequence = self.next_sequence();
+                self.current = Some(Current {
+                    record,
+                    sequence,
+                    next: 0,
+                    on_air: true,
+                });
                 Stored::Changed
             }
         }
@@ -94,47 +106,11 @@ impl<F: Family> Place<F> {
         })
     }
 
-    // Puts another record on air, from its frame 0.
-    fn replace(&mut self, record: Record<F::Head>)
-        ensures family { self.new.family ≡ self.old.family }
-        ensures current { held_view self.new.current ≡ Some (replaced_by F.Family.meaning.modulus (held_view self.old.current) (record_view «record»)) }
-        ensures on_air { is_on_air self.new ≡ true }
-    {
-        let sequence = self.next_sequence();
-        self.current = Some(Current {
-            record,
-            sequence,
-            next: 0,
-            on_air: true,
-        });
-    }
-
     // What is on air.
     fn record_on_air(&self) -> Option<Current<F::Head>>
         ensures { result ≡ aired_in self.now.current }
     {
         self.current.filter(|current| current.on_air)
-    }
-
-    // The next frame of a record.
-    fn next_frame(&self, current: &Current<F::Head>) -> Option<Payload>
-        ensures { result ≡ result_ok (frame_due F.Family.meaning self.now.family (record_view current.now.«record») current.now.sequence current.now.next) }
-    {
-        self.family
-            .frame(&current.record, current.sequence, current.next)
-            .ok()
-    }
-
-    // One frame further, in a round of as many.
-    fn advance(&mut self, current: Current<F::Head>, count: usize)
-        ensures family { self.new.family ≡ self.old.family }
-        ensures current { held_view self.new.current ≡ Some (advanced_in count (current_view current)) }
-        ensures on_air { is_on_air self.new ≡ current.on_air }
-    {
-        self.current = Some(Current {
-            next: successor(current.next, count),
-            ..current
-        });
     }
 }
 

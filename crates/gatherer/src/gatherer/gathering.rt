@@ -1,10 +1,10 @@
 // The calls that change a gatherer.
-ghost use Rattle.std.specs.Prelude.{◌≡◌, ℕ, ◌+◌, ◌≤◌, min, true, false, [], ◌∷◌, if◌then◌else◌, Some, None, ◌≢◌, nat_eq};
+ghost use Rattle.std.specs.Prelude.{◌≡◌, ℕ, ◌+◌, ◌≤◌, min, true, false, [], ◌∷◌, if◌then◌else◌, Some, nat_eq};
 ghost use Rattle.family.specs.Texts.{record_view, join_view};
 ghost use Rattle.gatherer.specs.Answers.{number_of};
 ghost use Rattle.gatherer.specs.Series.{accepted, forgotten, series, frames_told};
 ghost use Rattle.gatherer.specs.Due.{attempted, is_equal_to, joined_answer, refusal_due, refusal_in};
-ghost use Rattle.gatherer.specs.Agrees.{Agrees, InEveryHistory, InEverySeries, Holds, Taken, slot, attempt_view, attempt_due};
+ghost use Rattle.gatherer.specs.Agrees.{Agrees, InEveryHistory, InEverySeries, Holds, Taken, attempt_view, attempt_due};
 
 use crate::answer::Answer;
 use crate::gatherer::{Gatherer, Table};
@@ -61,20 +61,6 @@ impl<F: Family> Gatherer<F> {
     {
         let sequence = self.family.sequence(frame)?;
         let number = self.family.number(frame)?;
-        self.follow(sequence);
-        self.table.put(number, frame);
-        Ok(())
-    }
-
-    // Drops the frames of any other sequence number.
-    fn follow(&mut self, sequence: u8)
-        ensures sequence { self.new.sequence ≡ Some sequence }
-        ensures kept { self.old.sequence ≡ Some sequence → self.new.table ≡ self.old.table }
-        ensures dropped { (self.old.sequence ≢ Some sequence) → (i : ℕ) → slot self.new.table i ≡ None }
-        ensures family { self.new.family ≡ self.old.family }
-        ensures shown { self.new.shown ≡ self.old.shown }
-        ensures fresh { self.new.fresh ≡ self.old.fresh }
-    {
         match (self.sequence, sequence) {
             (Some(held), offered) if held == offered => {}
             _ => {
@@ -82,6 +68,8 @@ impl<F: Family> Gatherer<F> {
                 self.sequence = Some(sequence);
             }
         }
+        self.table.put(number, frame);
+        Ok(())
     }
 
     // How many frames the series should have, which frame 0 tells.
