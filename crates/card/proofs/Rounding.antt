@@ -2,6 +2,7 @@
 use Rattle.std.proofs.Common.{◌≡◌, ℕ, zero, suc, ◌+◌, ◌*◌, ◌%◌, ◌<◌, Bool, true, false, cond, ◌&&◌, eqb, List, [], ◌∷◌, ◌++◌, length, get_or, Some, None, Option, sym, refl, ap, ◌∙◌, subst, inl, inr, add-zero, mod-lt, add-one, arith}
 use native.Mathlib.Nat.{mod-add-mod}
 use Rattle.std.proofs.lemmas.Bool.{cases_eq, ne_eqb}
+use Rattle.std.proofs.lemmas.Bool.Decides.{nat_tests}
 use Rattle.message.specs.declared.place.Place.{Place}
 use Rattle.message.specs.declared.place.Place.TheVariants.{Name, Message, Alert}
 use Rattle.message.specs.Place.{place_number}
@@ -29,23 +30,17 @@ hits t a (suc n) = hits t a n + cond (eqb ((a + n) % 4) t) 1 0
 abbrev hit : ℕ → ℕ → ℕ → ℕ
 hit t b i = cond (eqb ((b + i) % 4) t) 1 0
 
--- of four turns in a row one is a place's
+turn_low : (p : Place) → turn_of p < 4
+turn_low Name = omega arith
+turn_low Message = omega arith
+turn_low Alert = omega arith
+
+-- of four turns in a row one is the turn t
+one_turn : (t b : ℕ) → t < 4 → b < 4 → hit t b 0 + hit t b 1 + hit t b 2 + hit t b 3 ≡ 1
+one_turn t b low l = grind (arith, nat_tests)
+
 one_of_four : (p : Place) (b : ℕ) → b < 4 → hit (turn_of p) b 0 + hit (turn_of p) b 1 + hit (turn_of p) b 2 + hit (turn_of p) b 3 ≡ 1
-one_of_four Name zero l = refl
-one_of_four Name (suc zero) l = refl
-one_of_four Name (suc (suc zero)) l = refl
-one_of_four Name (suc (suc (suc zero))) l = refl
-one_of_four Name (suc (suc (suc (suc b)))) l = absurd (omega arith)
-one_of_four Message zero l = refl
-one_of_four Message (suc zero) l = refl
-one_of_four Message (suc (suc zero)) l = refl
-one_of_four Message (suc (suc (suc zero))) l = refl
-one_of_four Message (suc (suc (suc (suc b)))) l = absurd (omega arith)
-one_of_four Alert zero l = refl
-one_of_four Alert (suc zero) l = refl
-one_of_four Alert (suc (suc zero)) l = refl
-one_of_four Alert (suc (suc (suc zero))) l = refl
-one_of_four Alert (suc (suc (suc (suc b)))) l = absurd (omega arith)
+one_of_four p b l = one_turn (turn_of p) b (turn_low p) l
 
 hit_from : (t a n i : ℕ) → cond (eqb ((a + (n + i)) % 4) t) 1 0 ≡ hit t ((a + n) % 4) i
 hit_from t a n i = let e : (a + (n + i)) % 4 ≡ ((a + n) % 4 + i) % 4 = ap (λ (k : ℕ). k % 4) (let f : a + (n + i) ≡ a + n + i = omega arith in f) ∙ sym (mod-add-mod (a + n) 4 i) in ap (λ (k : ℕ). cond (eqb k t) 1 0) e
