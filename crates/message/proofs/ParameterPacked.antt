@@ -2,6 +2,7 @@
 use Rattle.std.proofs.Common.{◌≡◌, ℕ, ◌+◌, ◌*◌, ◌/◌, ◌%◌, ◌^◌, ◌<◌, true, false, cond, not, ◌&&◌, eqb, ltb, Ok, sym, ap, ◌∙◌, ⊎_elim, add_assoc, arith}
 use Rattle.std.proofs.lemmas.Bool.{lt-ltb, ltb-true, eq-eqb, ne_eqb, cond-true, cond-false, cases_eq, and_parts, and_from, not_from_false}
 use Rattle.pdu.specs.Fields.{flag, bit_of}
+use Rattle.message.specs.declared.parameter.LeapSeconds.{LeapSeconds}
 use Rattle.message.specs.declared.parameter.LocalTime.{LocalTime}
 use Rattle.message.specs.declared.parameter.Parameter.TheVariants.{Leap, Local, Unread}
 use Rattle.message.specs.Bits.{field, signed, unsigned, fits_signed}
@@ -45,6 +46,21 @@ parameter_other : (p : ℕ) → eqb (field 6 16 p) 0 ≡ false → eqb (field 6 
 parameter_other p a b =
     cond-false (eqb (field 6 16 p) 0) (Leap (leap_of p)) (cond (eqb (field 6 16 p) 3) (Local (local_of p)) (Unread (field 6 16 p) (field 16 0 p))) a
     ∙ cond-false (eqb (field 6 16 p) 3) (Local (local_of p)) (Unread (field 6 16 p) (field 16 0 p)) b
+
+pub leap_again : (l : LeapSeconds) → parameter_in_range (Leap l) ≡ true → (parameter_packed (Leap l) < 2 ^ 22) × (parameter_of (parameter_packed (Leap l)) ≡ Leap l)
+leap_again l h =
+    let parts = and_parts (fits_signed 128 l.pending) (fits_signed 128 l.current) h in
+    let a = unsigned 128 l.pending in
+    let b = unsigned 128 l.current in
+    let n = parameter_packed (Leap l) in
+    let a_small = unsigned_small 128 l.pending parts.0 in
+    let b_small = unsigned_small 128 l.current parts.1 in
+    let high : field 8 8 n ≡ a = omega arith in
+    let low : field 8 0 n ≡ b = omega arith in
+    let zero : field 6 16 n ≡ 0 = omega arith in
+    let pending = ap (signed 128) high ∙ signed_again 128 l.pending parts.0 in
+    let current = ap (signed 128) low ∙ signed_again 128 l.current parts.1 in
+    (omega arith, parameter_zero n zero ∙ (λ i. Leap (record { pending = pending i; current = current i })))
 
 pub local_again : (l : LocalTime) → parameter_in_range (Local l) ≡ true → (parameter_packed (Local l) < 2 ^ 22) × (parameter_of (parameter_packed (Local l)) ≡ Local l)
 local_again l h =

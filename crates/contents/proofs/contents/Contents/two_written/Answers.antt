@@ -1,10 +1,28 @@
-use Rattle.std.proofs.Common.{◌≡◌, ◌-◌, true, Ok, sym, ap, ◌∙◌, ap₂, arith}
+use Rattle.std.proofs.Common.{◌≡◌, ◌-◌, true, Ok, sym, ap, ◌∙◌, ap₂, arith, rules}
 use Rattle.message.specs.Message.{number_of}
 use Rattle.contents.specs.Area.{size_within, first_size, second_size, joined}
 use Rattle.contents.specs.Contents.{contents_of, fields_with}
 use Rattle.contents.proofs.Trips.{two_written_is, two_read}
-use Rattle.contents.proofs.Fitting.{second_within, first_parts, payload_small, number_small}
+use Rattle.contents.proofs.Fitting.{second_within, first_parts, second_parts, payload_small, number_small}
 use Rattle.contents.proofs.contents.Contents.two_written.Goals as goal
+
+pub returns-in_err-second_size-clause-value : goal.returns-in_err-second_size-clause-value
+returns-in_err-second_size-clause-value c =
+    let first = c.in_ok-size.size in
+    let same : second_size first (number_of c.args.second) ≡ c.size_within.result =
+    sym (second_within first (number_of c.args.second) c.in_ok-size.ensures.fits) ∙ ap (size_within (54 - first)) (sym c.number-2.ensures) ∙ sym c.size_within.ensures.value in
+    search rules
+
+pub behind-requires : goal.behind-requires
+behind-requires c =
+    let n = number_of c.args.second in
+    let first = c.in_ok-size.size in
+    let size = c.in_ok-second_size.second_size in
+    let q = c.in_ok-second_payload.second_payload in
+    let told : second_size first n ≡ Ok size =
+    sym (second_within first n c.in_ok-size.ensures.fits) ∙ ap (size_within (54 - first)) (sym c.number-2.ensures) ∙ sym c.size_within.ensures.value ∙ c.in_ok-second_size.was in
+    let small = payload_small n q size c.args.second (second_parts first n size told).0 (c.payload-2.ensures.read_again q c.in_ok-second_payload.was) in
+    (omega (arith, c.in_ok-second_size.ensures.fits), small)
 
 pub behind-area-requires : goal.behind-area-requires
 behind-area-requires c =
