@@ -72,9 +72,7 @@ impl<N: Family, M: Family, E: Family> Link<N, M, E> {
         ensures unchanged { (x : Refusal) → result ≡ Err x → self.new ≡ self.old }
         ensures due { InEveryHistory N.Family.meaning M.Family.meaning E.Family.meaning self.old (λ f st a. Heard f st a self.old.pdu result self.new) }
     {
-        let Some(pdu) = self.pdu else {
-            return Err(Refusal::NothingThere);
-        };
+        let pdu = self.pdu.ok_or(Refusal::NothingThere)?;
         self.monitor.offer(&pdu.bytes)
     }
 
