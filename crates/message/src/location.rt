@@ -3,8 +3,11 @@ ghost use Rattle.std.specs.Prelude.{◌≡◌, ℕ, ◌^◌, ◌<◌, true};
 ghost use Rattle.message.specs.Location.{angle_of, half_under, in_range_under, packed_under, half_of, half_in_range, half_packed, location_of};
 ghost use Rattle.message.specs.Results.{in_range};
 
-use crate::bits::{field_of, to_signed, to_unsigned};
+use crate::bits::{Signed, field_of};
 use pdu::refusal::Refusal;
+
+// 22 bits.
+const UNITS: Signed = Signed { half: 1 << 21 };
 
 // An angle in units of 1/8192 degree; north and east are positive.
 #[derive(Clone, Copy)]
@@ -41,7 +44,7 @@ impl Angle {
     fn parse(payload: u64) -> Angle
         ensures { result ≡ angle_of payload }
     {
-        Angle(to_signed(field_of(payload, 22, 4), 1 << 21))
+        Angle(UNITS.number_of(field_of(payload, 22, 4)))
     }
 }
 
@@ -62,7 +65,7 @@ impl<const LIMIT: u32> Half<LIMIT> {
         ensures value { result ≡ packed_under LIMIT self.now }
         ensures small { result < 2 ^ 26 }
     {
-        to_unsigned(self.angle.0, 1 << 21) * 16 + u64::from(self.altitude)
+        UNITS.field_with(self.angle.0) * 16 + u64::from(self.altitude)
     }
 
     // Whether the angle is within its limit and the altitude has four bits.

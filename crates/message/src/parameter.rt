@@ -3,8 +3,13 @@ ghost use Rattle.std.specs.Prelude.{◌≡◌, ℕ, ◌^◌, ◌<◌, true, Ok};
 ghost use Rattle.message.specs.Parameter.{leap_of, local_of, parameter_of, parameter_in_range, parameter_packed};
 ghost use Rattle.message.specs.Results.{in_range};
 
-use crate::bits::{field_of, fits_signed, to_signed, to_unsigned};
+use crate::bits::{Signed, field_of};
 use pdu::refusal::Refusal;
+
+// Eight bits, and eleven.
+const SECONDS: Signed = Signed { half: 128 };
+
+const MINUTES: Signed = Signed { half: 1024 };
 
 #[derive(Clone, Copy)]
 pub struct Minutes(pub i16);
@@ -39,8 +44,8 @@ impl LeapSeconds {
         ensures { result ≡ leap_of payload }
     {
         LeapSeconds {
-            pending: to_signed(field_of(payload, 8, 8), 128) as i8,
-            current: to_signed(field_of(payload, 8, 0), 128) as i8,
+            pending: SECONDS.number_of(field_of(payload, 8, 8)) as i8,
+            current: SECONDS.number_of(field_of(payload, 8, 0)) as i8,
         }
     }
 }
@@ -50,7 +55,7 @@ impl LocalTime {
         ensures { result ≡ local_of payload }
     {
         LocalTime {
-            offset: Minutes(to_signed(field_of(payload, 11, 5), 1024) as i16),
+            offset: Minutes(MINUTES.number_of(field_of(payload, 11, 5)) as i16),
             schedule: field_of(payload, 3, 2) as u8,
             practised_locally: field_of(payload, 1, 1) == 1,
             in_effect: field_of(payload, 1, 0) == 1,
@@ -89,11 +94,11 @@ impl Parameter {
     {
         match self {
             Parameter::Leap(leap) => {
-                let pending = to_unsigned(i32::from(leap.pending), 128);
-                pending * 256 + to_unsigned(i32::from(leap.current), 128)
+                let pending = SECONDS.field_with(i32::from(leap.pending));
+                pending * 256 + SECONDS.field_with(i32::from(leap.current))
             }
             Parameter::Local(local) => {
-                let offset = to_unsigned(i32::from(local.offset.0), 1024);
+                let offset = MINUTES.field_with(i32::from(local.offset.0));
                 let schedule = offset * 8 + u64::from(local.schedule);
                 let practised = schedule * 2 + u64::from(local.practised_locally);
                 3 * 65_536 + practised * 2 + u64::from(local.in_effect)
@@ -107,11 +112,10 @@ impl Parameter {
     {
         match self {
             Parameter::Leap(leap) => {
-                fits_signed(i32::from(leap.pending), 128)
-                    && fits_signed(i32::from(leap.current), 128)
+                SECONDS.fits(i32::from(leap.pending)) && SECONDS.fits(i32::from(leap.current))
             }
             Parameter::Local(local) => {
-                fits_signed(i32::from(local.offset.0), 1024) && local.schedule < 8
+                MINUTES.fits(i32::from(local.offset.0)) && local.schedule < 8
             }
             Parameter::Unread { index, value: _ } => *index < 64 && *index != 0 && *index != 3,
         }

@@ -14,13 +14,13 @@ via q k n is value again range =
 pub returns-in-Leap : goal.returns-in-Leap
 returns-in-Leap c =
     let q = c.args.self in
-    let n = c.to_unsigned-pending.result * 256 + c.to_unsigned.result in
+    let n = c.field_with-pending.result * 256 + c.field_with.result in
     let value : n ≡ parameter_packed q = search rules in
     record { value = value; read_again = via q _ n c.in-Leap.is value (leap_again c.in-Leap.leap) c.requires }
 
 pub returns-in-Local : goal.returns-in-Local
 returns-in-Local c =
     let q = c.args.self in
-    let n = 196608 + ((c.to_unsigned-offset.result * 8 + c.from-in-Local-2.result) * 2 + c.from-in-Local-3.result) * 2 + c.from-in-Local-4.result in
+    let n = 196608 + ((c.field_with-offset.result * 8 + c.from-in-Local-2.result) * 2 + c.from-in-Local-3.result) * 2 + c.from-in-Local-4.result in
     let value : n ≡ parameter_packed q = search rules in
     record { value = value; read_again = via q _ n c.in-Local.is value (local_again c.in-Local.local) c.requires }
