@@ -1,7 +1,7 @@
 // The frames of an alert. Every frame begins with its number in 6 bits, its sequence number in 2 and 2 reserved bits. Frame 0 goes on with the encoding in 3 bits, the length in 9, the check in 7, the control length in 5 and three bytes; a later frame with six bytes.
 ghost use Rattle.std.specs.Prelude.{◌≡◌, length, refl};
 ghost use Rattle.family.specs.Texts.{bytes_of};
-ghost use Rattle.alert.specs.Alert.{frame_layout, alert_layout, lawful_head, lawful_length, alert_refusal, fields_of, check_of, reserved_in, length_in};
+ghost use Rattle.alert.specs.Alert.{frame_layout, alert_layout, lawful_head, lawful_length, alert_refusal, fields_of, check_of, length_in};
 ghost use Rattle.alert.specs.Sound.{sound};
 
 use crate::alert::{Alert, AlertHead};
@@ -56,12 +56,6 @@ fn fields_of(alert: &Alert, head: AlertHead, text: &Text, sequence: u8) -> Frame
     }
 }
 
-fn reserved_in(frame: Payload) -> u64
-    ensures { result ≡ reserved_in frame }
-{
-    (frame >> 48) % 4
-}
-
 // The length that frame 0 tells.
 fn length_told(frame: Payload) -> usize
     ensures { result ≡ length_in frame }
@@ -98,7 +92,8 @@ impl FamilyLayout for Alert {
     }
 
     fn accepts(&self, frame: Payload) -> bool {
-        if frame >= 1 << 58 || reserved_in(frame) != 0 {
+        // The reserved bits of every frame are zero.
+        if frame >= 1 << 58 || (frame >> 48) % 4 != 0 {
             return false;
         }
         self.number_in(frame) != 0 || refusal_of(self.head_in(frame), length_told(frame)).is_none()

@@ -17,6 +17,7 @@ pub trait FamilyLayout {
     // Sequence numbers are counted modulo this.
     const MODULUS: u8;
 
+    // How the bytes of a text stand in its frames.
     const FRAME_LAYOUT: FrameLayout;
 
     ghost MODULUS: { ℕ };

@@ -2,7 +2,7 @@
 ghost use Rattle.std.specs.Prelude.{◌≡◌, length, refl};
 ghost use Rattle.family.specs.Texts.{bytes_of};
 ghost use Rattle.station_message.specs.Checksum.{checksum_of};
-ghost use Rattle.station_message.specs.Message.{frame_layout, message_layout, lawful_encoding, lawful_length, fields_of, reserved_in, length_in};
+ghost use Rattle.station_message.specs.Message.{frame_layout, message_layout, lawful_encoding, lawful_length, fields_of, length_in};
 ghost use Rattle.station_message.specs.Sound.{sound};
 
 use crate::checksum::checksum;
@@ -32,12 +32,6 @@ fn lawful_length(length: usize) -> bool
     ensures { result ≡ lawful_length length }
 {
     4 <= length && length <= 190
-}
-
-fn reserved_in(frame: Payload) -> u64
-    ensures { result ≡ reserved_in frame }
-{
-    (frame >> 48) % 8
 }
 
 // The length that frame 0 tells.
@@ -102,7 +96,8 @@ impl FamilyLayout for StationMessage {
         if self.number_in(frame) == 0 {
             lawful_encoding(self.head_in(frame).encoding) && lawful_length(length_told(frame))
         } else {
-            reserved_in(frame) == 0
+            // The reserved bits of a later frame are zero.
+            (frame >> 48) % 8 == 0
         }
     }
 

@@ -8,5 +8,5 @@ use Rattle.name.proofs.name.NameFamilyLayout.length_in.Goals as goal
 pub returns-clause-value : goal.returns-clause-value
 returns-clause-value c =
     let f = byte_at frame_layout c.args.frames.now in
-    let found = first_from_Range _ _ _ c.find.result (λ x. f x ≡ 0) (λ x. f x ≢ 0) c.find.ensures.ran (λ x q k. search (rules, tests)) (λ x q k. search (rules, tests)) in
-    c.unwrap_or.ensures ∙ first_zero f 56 c.find.result found
+    c.unwrap_or.ensures
+    ∙ first_zero f 56 c.find.result (first_from_Range _ _ _ c.find.result (λ x. f x ≡ 0) (λ x. f x ≢ 0) c.find.ensures.ran (λ x q k. search (rules, tests)) (λ x q k. search (rules, tests)))
