@@ -7,13 +7,14 @@ use pdu::fields::Fields;
 use pdu::pdu::Pdu;
 use pdu::refusal::Refusal;
 
+// No TryFrom here: the transport has functions of the same names, which take the families too.
 impl Contents {
     // What a PDU says.
     pub fn decode(pdu: Pdu) -> Result<Contents, Refusal>
         ensures value { result ≡ decoded pdu }
         ensures written_again { (c : Contents) → result ≡ Ok c → encoded c ≡ Ok pdu }
     {
-        let fields = Fields::parse(pdu)?;
+        let fields = Fields::try_from(pdu)?;
         Contents::from_fields(fields)
     }
 
@@ -23,7 +24,7 @@ impl Contents {
         ensures read_again { (p : Pdu) → result ≡ Ok p → decoded p ≡ Ok self }
     {
         let fields = self.fields()?;
-        fields.compose()
+        Pdu::try_from(fields)
     }
 
     // What a slice of bytes says; ten are read.

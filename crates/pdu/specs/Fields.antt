@@ -1,5 +1,5 @@
 -- The fields of a PDU: bit 0 is the type, bit 1 the extension, bits 2 to 5 the first message's number, bits 6 to 63 the message area, bit 64 reserved, bit 65 time locked, bits 66 and 67 a pair, bits 68 to 79 the check.
-use Rattle.std.specs.Prelude.{ℕ, ◌+◌, ◌*◌, ◌%◌, ◌^◌, Bool, cond, ◌&&◌, Ok, Err, Result, ◌==◌, nat_lt}
+use Rattle.std.specs.Prelude.{◌≡◌, ℕ, ◌+◌, ◌*◌, ◌%◌, ◌^◌, ◌<◌, Bool, cond, ◌&&◌, Ok, Err, Result, ◌==◌, nat_lt}
 use Rattle.pdu.specs.declared.refusal.Refusal.{Refusal}
 use Rattle.pdu.specs.declared.refusal.Refusal.TheVariants.{CheckDiffers, TypeNotZero, OutOfRange}
 use Rattle.pdu.specs.declared.pdu.Pdu.{Pdu}
@@ -50,3 +50,14 @@ checked n = record { bytes = bytes_of (n + check_of (bytes_of n)) }
 -- The PDU with these fields.
 abbrev pub composed : Fields → Result Pdu Refusal
 composed f = cond (fit f) (Ok (checked (unchecked_number f))) (Err OutOfRange)
+
+-- The answer to reading the fields of a PDU. Fields that were read make the same PDU again.
+pub record IsRead (p : Pdu) (answer : Result Fields Refusal) : Type 0 where
+  pub value : answer ≡ parsed p
+  pub written_again : (f : Fields) → answer ≡ Ok f → composed f ≡ Ok p
+  pub area_small : (f : Fields) → answer ≡ Ok f → f.area < 2 ^ 58
+
+-- The answer to writing fields to a PDU. A PDU that was written has these fields.
+pub record IsWritten (f : Fields) (answer : Result Pdu Refusal) : Type 0 where
+  pub value : answer ≡ composed f
+  pub read_again : (p : Pdu) → answer ≡ Ok p → parsed p ≡ Ok f

@@ -1,6 +1,6 @@
 // The fields of a PDU between its type and its check.
 ghost use Rattle.std.specs.Prelude.{◌≡◌, ℕ, ◌+◌, ◌*◌, ◌%◌, ◌^◌, ◌<◌, true, Ok};
-ghost use Rattle.pdu.specs.Fields.{fields_of, tested, parsed, composed, fit, bit_of, unchecked_number};
+ghost use Rattle.pdu.specs.Fields.{IsRead, IsWritten, fields_of, tested, fit, bit_of, unchecked_number};
 
 use crate::pdu::Pdu;
 use crate::refusal::Refusal;
@@ -18,18 +18,36 @@ pub struct Fields {
     pub pair: u8,
 }
 
-impl Fields {
-    // The fields of a PDU whose check is right and whose type is 0.
-    pub fn parse(pdu: Pdu) -> Result<Fields, Refusal>
-        ensures value { result ≡ parsed pdu }
-        ensures written_again { (f : Fields) → result ≡ Ok f → composed f ≡ Ok pdu }
-        ensures area_small { (f : Fields) → result ≡ Ok f → f.area < 2 ^ 58 }
-    {
+// The fields of a PDU whose check is right and whose type is 0.
+impl TryFrom<Pdu> for Fields {
+    type Error = Refusal;
+
+    ghost try_from_gives = { IsRead };
+
+    fn try_from(pdu: Pdu) -> Result<Fields, Refusal> {
         let n = u128::from(pdu);
         test(n, pdu.check())?;
         Ok(Fields::of_number(n))
     }
+}
 
+// The PDU with these fields, type 0 and its check.
+impl TryFrom<Fields> for Pdu {
+    type Error = Refusal;
+
+    ghost try_from_gives = { IsWritten };
+
+    fn try_from(fields: Fields) -> Result<Pdu, Refusal> {
+        if !fields.fits() {
+            return Err(Refusal::OutOfRange);
+        }
+        let n = fields.unchecked_number();
+        let check = Pdu::from_number(n).check();
+        Ok(Pdu::from_number(n + u128::from(check)))
+    }
+}
+
+impl Fields {
     // The fields of 80 bits.
     fn of_number(n: u128) -> Fields
         ensures { result ≡ fields_of n }
@@ -42,19 +60,6 @@ impl Fields {
             time_locked: (n >> 14) % 2 == 1,
             pair: ((n >> 12) % 4) as u8,
         }
-    }
-
-    // The PDU with these fields, type 0 and its check.
-    pub fn compose(self) -> Result<Pdu, Refusal>
-        ensures value { result ≡ composed self }
-        ensures read_again { (p : Pdu) → result ≡ Ok p → parsed p ≡ Ok self }
-    {
-        if !self.fits() {
-            return Err(Refusal::OutOfRange);
-        }
-        let n = self.unchecked_number();
-        let check = Pdu::from_number(n).check();
-        Ok(Pdu::from_number(n + u128::from(check)))
     }
 
     // Whether each field fits its bits.

@@ -3,6 +3,7 @@ ghost use Rattle.std.specs.Prelude.{◌≤◌};
 
 use contents::contents::Contents;
 use pdu::fields::Fields;
+use pdu::pdu::Pdu;
 
 // What is due by the sizes alone: zero payloads are in range in every message.
 fn due(first: u8, second: u8) -> u8 {
@@ -49,7 +50,7 @@ fn answer(first: u8, second: u8) -> u8 {
         time_locked: false,
         pair: 0,
     };
-    let Ok(pdu) = fields.compose() else {
+    let Ok(pdu) = Pdu::try_from(fields) else {
         return 255;
     };
     match Contents::decode(pdu) {

@@ -10,5 +10,5 @@ returns c =
     let f = c.in_ok-fields.fields in
     record {
       value = search rules;
-      written_again = λ d e. then_ok (fields_of d) f composed (fields_again f d (sym c.from_fields.ensures ∙ e)) ∙ c.parse.ensures.written_again f c.in_ok-fields.was;
+      written_again = λ d e. then_ok (fields_of d) f composed (fields_again f d (sym c.from_fields.ensures ∙ e)) ∙ c.try_from.ensures.written_again f c.in_ok-fields.was;
     }

@@ -8,4 +8,4 @@ pub returns : goal.returns
 returns c =
     let f = c.in_ok-fields.fields in
     let again = c.fields.ensures.read_again f c.in_ok-fields.was in
-    record { value = search rules; read_again = λ p e. then_ok (fields_in p) f contents_of (c.compose.ensures.read_again p e) ∙ again }
+    record { value = search rules; read_again = λ p e. then_ok (fields_in p) f contents_of (c.try_from.ensures.read_again p e) ∙ again }

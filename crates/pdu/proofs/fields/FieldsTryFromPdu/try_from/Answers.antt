@@ -4,7 +4,7 @@ use Rattle.pdu.specs.Bytes.{number_of}
 use Rattle.pdu.specs.Check.{check_of}
 use Rattle.pdu.specs.Fields.{fields_of, tested, composed}
 use Rattle.pdu.proofs.Composed.{parsed_right, written_again, area_small}
-use Rattle.pdu.proofs.fields.Fields.parse.Goals as goal
+use Rattle.pdu.proofs.fields.FieldsTryFromPdu.try_from.Goals as goal
 
 pub returns : goal.returns
 returns c =

@@ -3,11 +3,11 @@ use Rattle.pdu.specs.Bytes.{bytes_of}
 use Rattle.pdu.specs.Check.{check_of}
 use Rattle.pdu.specs.Fields.{fit, checked, unchecked_number}
 use Rattle.pdu.proofs.Composed.{composed_right, parsed_again}
-use Rattle.pdu.proofs.fields.Fields.compose.Goals as goal
+use Rattle.pdu.proofs.fields.PduTryFromFields.try_from.Goals as goal
 
 pub returns : goal.returns
 returns c =
-    let f = c.args.self in
+    let f = c.args.fields in
     let n : c.unchecked_number-n.result ≡ unchecked_number f = c.unchecked_number-n.ensures.value in
     let whole : fit f ≡ true = sym c.fits.ensures ∙ c.if-not-fits.false in
     let check : c.from.result ≡ check_of (bytes_of c.unchecked_number-n.result) = c.from.ensures ∙ c.check-check.ensures.value ∙ ap (λ p. check_of p.bytes) c.from_number.ensures in
