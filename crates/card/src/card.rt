@@ -6,7 +6,7 @@ use crate::station::Station;
 use airing::place::Place;
 use family::family::Family;
 
-// Whose turn the next draw is.
+// Whose turn the next draw is. The places are of three types, so a draw matches on it.
 #[derive(Clone, Copy)]
 enum Turn {
     Station,

@@ -4,7 +4,8 @@ ghost use Rattle.monitor.specs.Answers.{number_of};
 
 use gatherer::answer::Answer;
 
-// The number under which the answer to an offer is known to programs; a PDU with no frame has none.
+// The number under which the answer to an offer is known to programs: 0 where the PDU has no frame.
+// Not From: Option and u8 are types of other crates.
 pub fn answer_number(answer: Option<Answer>) -> u8
     ensures { result ≡ number_of answer }
 {
