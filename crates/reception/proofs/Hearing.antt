@@ -1,5 +1,5 @@
 -- One more frame of a change is heard.
-use Rattle.std.proofs.Common.{◌≡◌, ℕ, Bool, true, false, cond, ◌⊎◌, List, ◌∷◌, Some, Option, refl, ap, ◌∙◌, inl, inr, arith}
+use Rattle.std.proofs.Common.{◌≡◌, ℕ, Bool, true, false, cond, ◌⊎◌, List, ◌∷◌, Some, Option, refl, ap, ◌∙◌, inl, inr}
 use Rattle.std.proofs.lemmas.Slice.Eq.{bytes_eq-Decides}
 use Rattle.family.specs.Meaning.{Meaning, RecordOf, Fit, Laws, equal_records}
 use Rattle.gatherer.specs.declared.answer.Answer.{Answer}

@@ -1,13 +1,11 @@
 // The calls that change a place.
 ghost use Rattle.std.specs.Prelude.{◌≡◌, true, false, [], ◌∷◌, if◌then◌else◌, Some, None, Err};
-ghost use Rattle.std.specs.Result.{result_ok};
 ghost use Rattle.pdu.specs.declared.refusal.Refusal.{Refusal};
-ghost use Rattle.family.specs.Meaning.{frame_due};
 ghost use Rattle.family.specs.Texts.{record_view};
 ghost use Rattle.airing.specs.Calls.{withdrawn, is_unequal_to};
 ghost use Rattle.airing.specs.declared.stored.Stored.TheVariants.{Changed, Unchanged};
-ghost use Rattle.airing.specs.Agrees.{Agrees, InEveryHistory, Accepted, Drawn, current_view, held_view, is_on_air, aired_in};
-ghost use Rattle.airing.specs.Steps.{record_of, next_sequence, successor_in, replaced_by, accepted_after, advanced_in};
+ghost use Rattle.airing.specs.Agrees.{Agrees, InEveryHistory, Accepted, Drawn, held_view, is_on_air, aired_in};
+ghost use Rattle.airing.specs.Steps.{record_of, next_sequence, successor_in, accepted_after};
 
 use crate::place::{Current, Place};
 use crate::stored::Stored;

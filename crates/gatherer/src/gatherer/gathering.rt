@@ -34,6 +34,7 @@ impl<F: Family> Gatherer<F> {
         ensures taken { InEveryHistory F.Family.meaning self.old (λ s h. F.Family.meaning.lawful s frame ≡ true → Taken F.Family.meaning s h frame result self.new) }
     {
         self.take(frame)?;
+        // Not `?`: without a record there is an answer too.
         match self.attempt() {
             Ok(record) => Ok(self.show(record)),
             Err(answer) => Ok(answer),
