@@ -8,7 +8,7 @@ use Rattle.transport.specs.declared.head.Head.{Head}
 use Rattle.transport.specs.declared.head.Head.TheVariants.{Name, Message, Alert}
 use Rattle.transport.specs.Families.{Families}
 use Rattle.card.specs.Calls.{Call, store, draw}
-use Rattle.card.specs.Due.{StationOf}
+use Rattle.card.specs.declared.station.Station.{Station}
 use Rattle.air.specs.Runs.{Step, card_calls}
 use Rattle.bench.specs.declared.bench.Bench.{Bench}
 use Rattle.course.specs.declared.exercise.Texts.{Texts}
@@ -36,7 +36,7 @@ abbrev pub exercise_calls : {T U V : Type 0} → Texts T U V → ℕ → List (C
 exercise_calls t n h = drawn_times n (message_changed t (drawn_times n (texts_stored t h)))
 
 -- The bench went on from the run a, and unless memory ran out the card's calls are these.
-pub record WentOn {N T M U E V : Type 0} (f : Families N T M U E V) (st : StationOf) (calls : List (Call (Head T U V))) (answer : Result (Unit {0}) AllocError) (b : Bench N M E T U V) : Type 0 where
+pub record WentOn {N T M U E V : Type 0} (f : Families N T M U E V) (st : Station) (calls : List (Call (Head T U V))) (answer : Result (Unit {0}) AllocError) (b : Bench N M E T U V) : Type 0 where
   pub run : List (Step (Head T U V))
   pub ran : Ran f st run b
   pub calls_are : answer ≡ Ok tt → card_calls run ≡ calls

@@ -1,1 +1,2 @@
 pub mod Exercise
+pub mod Shown

@@ -2,9 +2,20 @@
 pub mod running;
 
 use airing::stored::Stored;
+use bench::bench::Bench;
+use fading::fade::FadingBox;
+use family::family::Family;
 use family::text::{Record, Text};
 use message::place::Place;
 use pdu::refusal::Refusal;
+
+// A bench with the box between its ends, and what was told of it so far.
+#[derive(Drop)]
+pub struct Exercise<N: Family, M: Family, E: Family> {
+    pub bench: Bench<N, M, E>,
+    pub fading: FadingBox,
+    pub log: Vec<Entry>,
+}
 
 // The texts of the exercise, with heads of the three families.
 #[derive(Clone, Copy)]
@@ -19,9 +30,9 @@ pub struct Texts<T, U, V> {
 // What is worth telling of a run, in the order in which it came.
 #[derive(Clone, Copy)]
 pub enum Entry {
-    // A record was stored at a place's message number, or refused there.
+    // A record was stored at a place, or refused there.
     Stored {
-        number: u8,
+        place: Place,
         text: Text,
         answer: Result<Stored, Refusal>,
     },

@@ -4,7 +4,7 @@
 mod words;
 
 use alert::alert::Alert;
-use anyhow::anyhow;
+use anyhow::bail;
 use hexadecimal::text::{TextError, bytes_of};
 use name::name::Name;
 use station_message::message::StationMessage;
@@ -32,10 +32,10 @@ fn run(rt: &HostRuntime) -> anyhow::Result<()> {
             return Ok(());
         }
         eprintln!(rt; "decode: no argument is taken, but '{word}' was given\n{USAGE}")?;
-        return Err(anyhow!("bad arguments"));
+        bail!("bad arguments");
     }
     let Ok(alerts) = Alert::new(GENERATOR) else {
-        return Err(anyhow!("the alert generator is not allowed"));
+        bail!("the alert generator is not allowed");
     };
     for (i, line) in rt.lines(rt.alloc()).enumerate() {
         let line = line?;

@@ -1,7 +1,7 @@
 // The texts and the seed, from the words of the command line.
 use crate::texts::texts_of;
 use alert::alert::AlertHead;
-use anyhow::anyhow;
+use anyhow::bail;
 use course::exercise::Texts;
 use station_message::message::MessageHead;
 use std::alloc::Global;
@@ -12,51 +12,43 @@ pub(crate) struct Arguments {
     pub texts: Texts<(), MessageHead, AlertHead>,
 }
 
-pub(crate) fn arguments_in(heap: Global, words: &[String]) -> anyhow::Result<Arguments> {
-    match words {
-        [] => built_in(heap, 1),
-        [flag, seed] if flag.as_str() == "--seed" => built_in(heap, seed_in(heap, seed.as_str())?),
-        [name, message, changed, alert] => {
-            let texts = texts_of(
-                heap,
-                name.as_str(),
-                message.as_str(),
-                changed.as_str(),
-                alert.as_str(),
-            )?;
-            Ok(Arguments { seed: 1, texts })
-        }
-        [flag, seed, name, message, changed, alert] if flag.as_str() == "--seed" => {
-            let texts = texts_of(
-                heap,
-                name.as_str(),
-                message.as_str(),
-                changed.as_str(),
-                alert.as_str(),
-            )?;
-            let seed = seed_in(heap, seed.as_str())?;
-            Ok(Arguments { seed, texts })
-        }
-        _ => Err(anyhow!("there are four texts, or none")),
-    }
-}
+// The texts of a run with no texts of its own.
+const OWN_TEXTS: [&str; 4] = [
+    "Dolmughia Bench Radio",
+    "Welcome to the bench course.",
+    "The bench course goes on until four.",
+    "Test alert: this is only an exercise.",
+];
 
-fn built_in(heap: Global, seed: u32) -> anyhow::Result<Arguments> {
-    let texts = texts_of(
-        heap,
-        "Dolmughia Bench Radio",
-        "Welcome to the bench course.",
-        "The bench course goes on until four.",
-        "Test alert: this is only an exercise.",
-    )?;
+pub(crate) fn arguments_in(heap: Global, words: &[String]) -> anyhow::Result<Arguments> {
+    // Four words are four texts, whatever the first one is.
+    let (seed, words) = match words {
+        [flag, seed, rest @ ..] if flag.as_str() == "--seed" && words.len() != 4 => {
+            (Some(seed), rest)
+        }
+        _ => (None, words),
+    };
+    let texts = match words {
+        [] => OWN_TEXTS,
+        [name, message, changed, alert] => [
+            name.as_str(),
+            message.as_str(),
+            changed.as_str(),
+            alert.as_str(),
+        ],
+        _ => bail!("there are four texts, or none"),
+    };
+    let texts = texts_of(heap, texts)?;
+    let seed = match seed {
+        Some(word) => seed_in(word.as_str())?,
+        None => 1,
+    };
     Ok(Arguments { seed, texts })
 }
 
-fn seed_in(heap: Global, word: &str) -> anyhow::Result<u32> {
-    match word.parse::<u32>() {
-        Ok(seed) => Ok(seed),
-        Err(_) => Err(anyhow!(format!(in heap;
-            "the seed '{word}' is no number up to 4294967295"
-        )?)),
-    }
+fn seed_in(word: &str) -> anyhow::Result<u32> {
+    let Ok(seed) = word.parse::<u32>() else {
+        bail!("the seed '{word}' is no number up to 4294967295");
+    };
+    Ok(seed)
 }

@@ -2,19 +2,19 @@
 #![tactic(auto)]
 
 mod arguments;
-mod quoted;
 mod report;
 mod texts;
 
 use alert::alert::Alert;
-use anyhow::anyhow;
+use anyhow::bail;
 use arguments::{Arguments, arguments_in};
 use bench::bench::Bench;
-use course::exercise::running::run as run_exercise;
+use card::station::Station;
+use course::exercise::Exercise;
 use fading::fade::FadingBox;
 use message::station::{CallSignExtension, Character, CountryCode, ShortName, StationId};
 use name::name::Name;
-use report::print_report;
+use report::Report;
 use station_message::message::StationMessage;
 use std::env;
 use texts::longest_cut;
@@ -37,50 +37,53 @@ fn main(rt: HostRuntime) -> anyhow::Result<()> {
 
 fn run(rt: &HostRuntime) -> anyhow::Result<()> {
     let words: Vec<String> = env::args(rt)?.skip(1).collect(rt.alloc())?;
-    if let [word] = words.as_slice() {
-        if word.as_str() == "--help" {
+    match words.as_slice() {
+        [word] if word.as_str() == "--help" => {
             println!(rt; "{USAGE}")?;
-            return Ok(());
+            Ok(())
         }
-    }
-    match arguments_in(rt.alloc(), words.as_slice()) {
-        Ok(arguments) => perform(rt, arguments),
-        Err(error) => {
-            eprintln!(rt; "{USAGE}")?;
-            Err(error)
-        }
+        words => match arguments_in(rt.alloc(), words) {
+            Ok(arguments) => perform(rt, arguments),
+            Err(error) => {
+                eprintln!(rt; "{USAGE}")?;
+                Err(error)
+            }
+        },
     }
 }
 
 fn perform(rt: &HostRuntime, arguments: Arguments) -> anyhow::Result<()> {
     let Ok(alerts) = Alert::new(GENERATOR) else {
-        return Err(anyhow!("the alert generator is not allowed"));
+        bail!("the alert generator is not allowed");
     };
     let texts = arguments.texts;
     // One turn of four for each frame of the longest text.
-    let draws = longest_cut(rt.alloc(), alerts, texts)?.saturating_mul(4 * ROUNDS);
-    let Ok(mut bench) = Bench::open(station_id(), short_name(), Name, StationMessage, alerts) else {
-        return Err(anyhow!("the station's fields are not allowed"));
+    let draws = longest_cut(alerts, texts)?.saturating_mul(4 * ROUNDS);
+    let Ok(bench) = Bench::open(station(), Name, StationMessage, alerts) else {
+        bail!("the station's fields are not allowed");
     };
-    let mut log = Vec::new(rt.alloc());
-    let mut fading = FadingBox::new(arguments.seed);
-    run_exercise(&mut bench, texts, &mut fading, draws, &mut log)?;
-    print_report(rt, &bench, log.as_slice())
+    let mut exercise = Exercise {
+        bench,
+        fading: FadingBox::new(arguments.seed),
+        log: Vec::new(rt.alloc()),
+    };
+    exercise.run(texts, draws)?;
+    print!(rt; "{}", Report::of(&exercise))?;
+    Ok(())
 }
 
-// The letters U and S, five bits each.
-fn station_id() -> StationId {
-    StationId {
-        country: CountryCode(20 * 32 + 18),
-        reserved: 0,
-        facility: 1234,
-    }
-}
-
-// DOLM-FM.
-fn short_name() -> ShortName {
-    ShortName {
-        characters: (Character(3), Character(14), Character(11), Character(12)),
-        extension: CallSignExtension::DashFm,
+fn station() -> Station {
+    Station {
+        // The letters U and S, five bits each.
+        id: StationId {
+            country: CountryCode(20 * 32 + 18),
+            reserved: 0,
+            facility: 1234,
+        },
+        // DOLM-FM.
+        short_name: ShortName {
+            characters: (Character(3), Character(14), Character(11), Character(12)),
+            extension: CallSignExtension::DashFm,
+        },
     }
 }

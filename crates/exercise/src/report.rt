@@ -1,231 +1,276 @@
 // What a marker wants to see of a run, in order.
-use crate::quoted::{Digits, Quoted};
 use airing::stored::Stored;
 use alert::alert::Alert;
 use bench::bench::{Bench, Verdict};
-use bench::tally::Tally;
-use course::exercise::Entry;
-use display::line::{Source, display_line};
+use course::exercise::{Entry, Exercise};
+use course::shown::shown_text;
+use display::line::{Line, Source, display_line};
 use display::piece::{Piece, pieces};
-use family::family::Family;
+use family::text::Text;
+use hexadecimal::printed::{Digits, Quoted};
 use message::place::Place;
 use name::name::Name;
 use pdu::refusal::Refusal;
 use station_message::message::StationMessage;
+use std::fmt;
 use transport::head::Head;
 
-pub(crate) fn print_report(
-    rt: &HostRuntime,
-    bench: &Bench<Name, StationMessage, Alert>,
-    log: &[Entry],
-) -> anyhow::Result<()> {
-    print_stores(rt, log)?;
-    print_draws(rt, bench.tally())?;
-    print_refusals(rt, log)?;
-    print_shown(rt, log)?;
-    print_alert_and_line(rt, bench)?;
-    print_counts(rt, bench)?;
-    print_verdict(rt, bench)
+// What the monitor refuses a PDU with, in the order of the tests.
+const REFUSALS: [Refusal; 8] = [
+    Refusal::NotTenBytes,
+    Refusal::CheckDiffers,
+    Refusal::TypeNotZero,
+    Refusal::ReservedMessage,
+    Refusal::PayloadsTooLong,
+    Refusal::OutOfRange,
+    Refusal::LeftoverBitSet,
+    Refusal::UnlawfulFrame,
+];
+
+#[derive(Clone, Copy)]
+pub(crate) struct Report<'a> {
+    bench: &'a Bench<Name, StationMessage, Alert>,
+    log: &'a [Entry],
 }
 
-fn place_name(place: Place) -> &'static str {
-    match place {
-        Place::Name => "name",
-        Place::Message => "message",
-        Place::Alert => "alert",
-    }
-}
-
-fn print_stores(rt: &HostRuntime, log: &[Entry]) -> anyhow::Result<()> {
-    println!(rt; "Stored at the card, in this order:")?;
-    for entry in log {
-        let Entry::Stored {
-            number,
-            text,
-            answer,
-        } = entry
-        else {
-            continue;
-        };
-        let place = match Place::with_number(*number) {
-            Some(place) => place_name(place),
-            None => "no place",
-        };
-        let quoted = Quoted(text.as_slice());
-        match answer {
-            Ok(Stored::Changed) => println!(rt; "  {place} {quoted}: changed")?,
-            Ok(Stored::Unchanged) => println!(rt; "  {place} {quoted}: unchanged")?,
-            Err(refusal) => println!(rt; "  {place} {quoted}: refused, {refusal}")?,
+impl<'a> Report<'a> {
+    pub(crate) fn of(exercise: &'a Exercise<Name, StationMessage, Alert>) -> Report<'a> {
+        Report {
+            bench: &exercise.bench,
+            log: exercise.log.as_slice(),
         }
     }
-    Ok(())
 }
 
-fn print_draws(rt: &HostRuntime, tally: Tally) -> anyhow::Result<()> {
-    let drawn = tally.drawn;
-    let lost = tally.lost;
-    let doubled = tally.doubled;
-    let turned = tally.turned;
-    println!(rt;
-        "PDUs: {drawn} drawn; {lost} lost, {doubled} doubled, {turned} with a bit turned."
-    )?;
-    Ok(())
-}
-
-// The refusals, each with the numbers of the PDUs among those drawn.
-fn print_refusals(rt: &HostRuntime, log: &[Entry]) -> anyhow::Result<()> {
-    println!(rt; "Refused by the monitor:")?;
-    let mut some = false;
-    for number in 11..19u8 {
-        some = print_refused(rt, log, number)? || some;
+impl fmt::Display for Report<'_> {
+    fn fmt<W: fmt::Write>(&self, f: &mut fmt::Formatter<W>) -> fmt::Result {
+        self.stores(f)?;
+        self.draws(f)?;
+        self.refusals(f)?;
+        self.shown(f)?;
+        self.alert_and_line(f)?;
+        self.counts(f)?;
+        self.verdict(f)
     }
-    if !some {
-        println!(rt; "  nothing")?;
-    }
-    Ok(())
 }
 
-// One line for the refusals of one number, if there are any.
-fn print_refused(rt: &HostRuntime, log: &[Entry], number: u8) -> anyhow::Result<bool> {
-    let mut some = false;
-    for entry in log {
-        let Entry::Refused { drawn, refusal } = entry else {
-            continue;
-        };
-        if refusal.number() == number {
-            if some {
-                print!(rt; ", {drawn}")?;
-            } else {
-                print!(rt; "  {refusal}: PDU {drawn}")?;
+impl Report<'_> {
+    fn stores<W: fmt::Write>(&self, f: &mut fmt::Formatter<W>) -> fmt::Result {
+        writeln!(f, "Stored at the card, in this order:")?;
+        for entry in self.log {
+            let Entry::Stored {
+                place,
+                text,
+                answer,
+            } = entry
+            else {
+                continue;
+            };
+            let place = PlaceName(*place);
+            let quoted = quoted(text.as_slice());
+            match answer {
+                Ok(Stored::Changed) => writeln!(f, "  {place} {quoted}: changed")?,
+                Ok(Stored::Unchanged) => writeln!(f, "  {place} {quoted}: unchanged")?,
+                Err(refusal) => writeln!(f, "  {place} {quoted}: refused, {refusal}")?,
             }
-            some = true;
         }
+        Ok(())
     }
-    if some {
-        println!(rt; "")?;
-    }
-    Ok(some)
-}
 
-fn print_shown(rt: &HostRuntime, log: &[Entry]) -> anyhow::Result<()> {
-    println!(rt; "Newly shown by the monitor:")?;
-    for entry in log {
-        if let Entry::Shown { drawn, place, text } = entry {
-            let place = place_name(*place);
-            let quoted = Quoted(text.as_slice());
-            println!(rt; "  at PDU {drawn}: {place} {quoted}")?;
+    fn draws<W: fmt::Write>(&self, f: &mut fmt::Formatter<W>) -> fmt::Result {
+        let tally = self.bench.tally();
+        let drawn = tally.drawn;
+        let lost = tally.lost;
+        let doubled = tally.doubled;
+        let turned = tally.turned;
+        writeln!(
+            f,
+            "PDUs: {drawn} drawn; {lost} lost, {doubled} doubled, {turned} with a bit turned."
+        )
+    }
+
+    // The refusals, each with the numbers of the PDUs among those drawn.
+    fn refusals<W: fmt::Write>(&self, f: &mut fmt::Formatter<W>) -> fmt::Result {
+        writeln!(f, "Refused by the monitor:")?;
+        let mut some = false;
+        for refusal in REFUSALS {
+            some = self.refused(refusal, f)? || some;
         }
-    }
-    Ok(())
-}
-
-// The alert's two pieces, and the line that a display shows.
-fn print_alert_and_line(
-    rt: &HostRuntime,
-    bench: &Bench<Name, StationMessage, Alert>,
-) -> anyhow::Result<()> {
-    let mut message = [0; 381];
-    let length = bench
-        .monitor()
-        .copy_text(5, &mut message)
-        .unwrap_or(0)
-        .min(381);
-    let message = &message[0..length];
-    let mut alert = [0; 381];
-    let Ok(length) = bench.monitor().copy_text(9, &mut alert) else {
-        println!(rt; "No alert is shown.")?;
-        return print_line(rt, Source::Message, message);
-    };
-    let Ok(Head::Alert(head)) = bench.monitor().shown_head(9) else {
-        return Ok(());
-    };
-    let Ok((control, text)) = pieces(head, &alert[0..length.min(381)]) else {
-        return Ok(());
-    };
-    println!(rt; "The alert's two pieces:")?;
-    print_piece(rt, control)?;
-    print_piece(rt, text)?;
-    let line = display_line(text, message);
-    print_line(rt, line.source, line.bytes)
-}
-
-fn print_piece(rt: &HostRuntime, piece: Piece<'_>) -> anyhow::Result<()> {
-    match piece {
-        Piece::Control(part) => {
-            let place = part.place;
-            let digits = Digits(part.bytes);
-            println!(rt; "  control data from byte {place}: {digits}")?;
+        if !some {
+            writeln!(f, "  nothing")?;
         }
-        Piece::Text(part) => {
-            let place = part.place;
-            let quoted = Quoted(part.bytes);
-            println!(rt; "  text from byte {place}: {quoted}")?;
+        Ok(())
+    }
+
+    // One line for one refusal, if there was any.
+    fn refused<W: fmt::Write>(
+        &self,
+        sought: Refusal,
+        f: &mut fmt::Formatter<W>,
+    ) -> Result<bool, fmt::Error> {
+        let mut some = false;
+        for entry in self.log {
+            let Entry::Refused { drawn, refusal } = entry else {
+                continue;
+            };
+            if *refusal == sought {
+                if some {
+                    write!(f, ", {drawn}")?;
+                } else {
+                    write!(f, "  {refusal}: PDU {drawn}")?;
+                }
+                some = true;
+            }
         }
+        if some {
+            writeln!(f, "")?;
+        }
+        Ok(some)
     }
-    Ok(())
-}
 
-fn print_line(rt: &HostRuntime, source: Source, bytes: &[u8]) -> anyhow::Result<()> {
-    let quoted = Quoted(bytes);
-    match source {
-        Source::Alert => println!(rt; "Display line, from the alert: {quoted}")?,
-        Source::Message => println!(rt; "Display line, from the message: {quoted}")?,
+    fn shown<W: fmt::Write>(&self, f: &mut fmt::Formatter<W>) -> fmt::Result {
+        writeln!(f, "Newly shown by the monitor:")?;
+        for entry in self.log {
+            if let Entry::Shown { drawn, place, text } = entry {
+                let place = PlaceName(*place);
+                let quoted = quoted(text.as_slice());
+                writeln!(f, "  at PDU {drawn}: {place} {quoted}")?;
+            }
+        }
+        Ok(())
     }
-    Ok(())
-}
 
-fn print_counts(
-    rt: &HostRuntime,
-    bench: &Bench<Name, StationMessage, Alert>,
-) -> anyhow::Result<()> {
-    println!(rt; "Newly shown, beside the changes at the card:")?;
-    let changes = bench.tally().changes;
-    print_count(rt, bench, Place::Name, changes.name)?;
-    print_count(rt, bench, Place::Message, changes.message)?;
-    print_count(rt, bench, Place::Alert, changes.alert)
-}
-
-fn print_count(
-    rt: &HostRuntime,
-    bench: &Bench<Name, StationMessage, Alert>,
-    place: Place,
-    changes: u32,
-) -> anyhow::Result<()> {
-    let shown = bench.monitor().fresh_count(place.number()).unwrap_or(0);
-    let place = place_name(place);
-    println!(rt; "  {place}: {shown} of {changes}")?;
-    Ok(())
-}
-
-// Whether every change arrived: as many texts were newly shown as there were changes.
-fn is_complete(bench: &Bench<Name, StationMessage, Alert>) -> bool {
-    let changes = bench.tally().changes;
-    let monitor = bench.monitor();
-    monitor.fresh_count(2) == Ok(changes.name)
-        && monitor.fresh_count(5) == Ok(changes.message)
-        && monitor.fresh_count(9) == Ok(changes.alert)
-}
-
-fn print_verdict(
-    rt: &HostRuntime,
-    bench: &Bench<Name, StationMessage, Alert>,
-) -> anyhow::Result<()> {
-    match (bench.verdict(), is_complete(bench)) {
-        (Verdict::Covered, true) => println!(rt;
-            "Verdict: every change arrived, and nothing else was shown."
-        )?,
-        (Verdict::Covered, false) => println!(rt;
-            "Verdict: not every change arrived; nothing else was shown."
-        )?,
-        (Verdict::NotCovered, _) => {
-            println!(rt;
-                "Verdict: none. A turned PDU was accepted, or a place had more than three changes."
-            )?;
+    // The alert's two pieces, and the line that a display shows.
+    fn alert_and_line<W: fmt::Write>(&self, f: &mut fmt::Formatter<W>) -> fmt::Result {
+        let monitor = self.bench.monitor();
+        let message = shown_text(monitor, Place::Message);
+        let message = match &message {
+            Some(text) => text.as_slice(),
+            None => &[],
+        };
+        let Some(alert) = shown_text(monitor, Place::Alert) else {
+            writeln!(f, "No alert is shown.")?;
+            let line = Line {
+                source: Source::Message,
+                place: 0,
+                bytes: message,
+            };
+            return writeln!(f, "{}", LineWords(line));
+        };
+        let Ok(Head::Alert(head)) = monitor.shown_head(u8::from(Place::Alert)) else {
             return Ok(());
+        };
+        let Ok((control, text)) = pieces(head, alert.as_slice()) else {
+            return Ok(());
+        };
+        writeln!(f, "The alert's two pieces:")?;
+        writeln!(f, "  {}", PieceWords(control))?;
+        writeln!(f, "  {}", PieceWords(text))?;
+        writeln!(f, "{}", LineWords(display_line(text, message)))
+    }
+
+    fn counts<W: fmt::Write>(&self, f: &mut fmt::Formatter<W>) -> fmt::Result {
+        writeln!(f, "Newly shown, beside the changes at the card:")?;
+        for (place, changes) in self.changes() {
+            let shown = self.fresh_count(place).unwrap_or(0);
+            let place = PlaceName(place);
+            writeln!(f, "  {place}: {shown} of {changes}")?;
+        }
+        Ok(())
+    }
+
+    fn verdict<W: fmt::Write>(&self, f: &mut fmt::Formatter<W>) -> fmt::Result {
+        match (self.bench.verdict(), self.is_complete()) {
+            (Verdict::Covered, true) => writeln!(
+                f,
+                "Verdict: every change arrived, and nothing else was shown."
+            )?,
+            (Verdict::Covered, false) => writeln!(
+                f,
+                "Verdict: not every change arrived; nothing else was shown."
+            )?,
+            (Verdict::NotCovered, _) => {
+                return writeln!(
+                    f,
+                    "Verdict: none. A turned PDU was accepted, or a place had more than three changes."
+                );
+            }
+        }
+        writeln!(
+            f,
+            "Proved of this run: each text newly shown at a place is that of a change stored there, in the order of the changes, and each change is shown at most once."
+        )
+    }
+
+    // How often a store was a change, by place.
+    fn changes(&self) -> [(Place, u32); 3] {
+        let changes = self.bench.tally().changes;
+        [
+            (Place::Name, changes.name),
+            (Place::Message, changes.message),
+            (Place::Alert, changes.alert),
+        ]
+    }
+
+    fn fresh_count(&self, place: Place) -> Result<u32, Refusal> {
+        self.bench.monitor().fresh_count(u8::from(place))
+    }
+
+    // Whether every change arrived: as many texts were newly shown as there were changes.
+    fn is_complete(&self) -> bool {
+        self.changes().iter().all(|(place, changes)| self.fresh_count(*place) == Ok(*changes))
+    }
+}
+
+#[derive(Clone, Copy)]
+struct PlaceName(Place);
+
+impl fmt::Display for PlaceName {
+    fn fmt<W: fmt::Write>(&self, f: &mut fmt::Formatter<W>) -> fmt::Result {
+        match self.0 {
+            Place::Name => write!(f, "name"),
+            Place::Message => write!(f, "message"),
+            Place::Alert => write!(f, "alert"),
         }
     }
-    println!(rt;
-        "Proved of this run: each text newly shown at a place is that of a change stored there, in the order of the changes, and each change is shown at most once."
-    )?;
-    Ok(())
+}
+
+#[derive(Clone, Copy)]
+struct PieceWords<'a>(Piece<'a>);
+
+impl fmt::Display for PieceWords<'_> {
+    fn fmt<W: fmt::Write>(&self, f: &mut fmt::Formatter<W>) -> fmt::Result {
+        match self.0 {
+            Piece::Control(part) => {
+                let place = part.place;
+                let digits = Digits(part.bytes);
+                write!(f, "control data from byte {place}: {digits}")
+            }
+            Piece::Text(part) => {
+                let place = part.place;
+                let quoted = quoted(part.bytes);
+                write!(f, "text from byte {place}: {quoted}")
+            }
+        }
+    }
+}
+
+#[derive(Clone, Copy)]
+struct LineWords<'a>(Line<'a>);
+
+impl fmt::Display for LineWords<'_> {
+    fn fmt<W: fmt::Write>(&self, f: &mut fmt::Formatter<W>) -> fmt::Result {
+        let quoted = quoted(self.0.bytes);
+        match self.0.source {
+            Source::Alert => write!(f, "Display line, from the alert: {quoted}"),
+            Source::Message => write!(f, "Display line, from the message: {quoted}"),
+        }
+    }
+}
+
+fn quoted(bytes: &[u8]) -> Quoted<'_> {
+    Quoted {
+        bytes,
+        escape_marks: false,
+    }
 }

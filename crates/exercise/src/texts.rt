@@ -1,6 +1,6 @@
 // The texts of the exercise as records, and how long they are on air.
 use alert::alert::{Alert, AlertHead};
-use anyhow::anyhow;
+use anyhow::bail;
 use course::exercise::Texts;
 use family::family::Family;
 use family::text::{Record, Text};
@@ -11,14 +11,12 @@ use std::alloc::Global;
 // Control data in front of an alert's text, in pairs of bytes.
 const CONTROL_LENGTH: u8 = 3;
 
-// The records of four texts; control data of zeros goes before the alert's.
+// The records of four texts: the name, the message, what it is changed to and the alert, which control data of zeros goes before.
 pub(crate) fn texts_of(
     heap: Global,
-    name: &str,
-    message: &str,
-    changed: &str,
-    alert: &str,
+    texts: [&str; 4],
 ) -> anyhow::Result<Texts<(), MessageHead, AlertHead>> {
+    let [name, message, changed, alert] = texts;
     let plain = MessageHead {
         priority: 0,
         encoding: 0,
@@ -30,49 +28,38 @@ pub(crate) fn texts_of(
     let mut bytes = vec![in heap; 0; 2 * CONTROL_LENGTH as usize]?;
     bytes.extend_from_slice(alert.as_bytes())?;
     Ok(Texts {
-        name: record_of(heap, "name", (), name.as_bytes())?,
-        message: record_of(heap, "message", plain, message.as_bytes())?,
-        alert: record_of(heap, "alert", head, bytes.as_slice())?,
-        changed: record_of(heap, "changed message", plain, changed.as_bytes())?,
+        name: record_of("name", (), name.as_bytes())?,
+        message: record_of("message", plain, message.as_bytes())?,
+        alert: record_of("alert", head, bytes.as_slice())?,
+        changed: record_of("changed message", plain, changed.as_bytes())?,
     })
 }
 
-fn record_of<H: Copy>(
-    heap: Global,
-    what: &str,
-    head: H,
-    bytes: &[u8],
-) -> anyhow::Result<Record<H>> {
+fn record_of<H: Copy>(what: &str, head: H, bytes: &[u8]) -> anyhow::Result<Record<H>> {
     match Text::new(bytes) {
         Ok(text) => Ok(Record { head, text }),
-        Err(refusal) => Err(anyhow!(format!(in heap; "the {what} is refused, {refusal}")?)),
+        Err(refusal) => bail!("the {what} is refused, {refusal}"),
     }
 }
 
 // How many frames the longest of the texts has; a text that its family refuses is told.
 pub(crate) fn longest_cut(
-    heap: Global,
     alerts: Alert,
     texts: Texts<(), MessageHead, AlertHead>,
 ) -> anyhow::Result<u32> {
-    let name = frames_of(heap, "name", &Name, &texts.name)?;
-    let message = frames_of(heap, "message", &StationMessage, &texts.message)?;
-    let changed = frames_of(heap, "changed message", &StationMessage, &texts.changed)?;
-    let alert = frames_of(heap, "alert", &alerts, &texts.alert)?;
+    let name = frames_of("name", &Name, &texts.name)?;
+    let message = frames_of("message", &StationMessage, &texts.message)?;
+    let changed = frames_of("changed message", &StationMessage, &texts.changed)?;
+    let alert = frames_of("alert", &alerts, &texts.alert)?;
     Ok(name.max(message).max(changed).max(alert))
 }
 
-fn frames_of<F: Family>(
-    heap: Global,
-    what: &str,
-    family: &F,
-    record: &Record<F::Head>,
-) -> anyhow::Result<u32> {
+fn frames_of<F: Family>(what: &str, family: &F, record: &Record<F::Head>) -> anyhow::Result<u32> {
     match family.frame_count(record) {
         Ok(count) => Ok(u32::try_from(count)?),
         Err(refusal) => {
             let length = record.text.len;
-            Err(anyhow!(format!(in heap; "the {what} of {length} bytes is refused, {refusal}")?))
+            bail!("the {what} of {length} bytes is refused, {refusal}");
         }
     }
 }

@@ -1,16 +1,14 @@
 // Numbers and bytes from the words of the command line.
-use anyhow::anyhow;
+use anyhow::bail;
 use hexadecimal::text::{TextError, bytes_of};
 use std::alloc::Global;
 
 // A number from 0 to 255.
-pub(crate) fn number_in(heap: Global, word: &str, what: &str) -> anyhow::Result<u8> {
-    match word.parse::<u8>() {
-        Ok(number) => Ok(number),
-        Err(_) => {
-            Err(anyhow!(format!(in heap; "the {what} '{word}' is no number from 0 to 255")?))
-        }
-    }
+pub(crate) fn number_in(word: &str, what: &str) -> anyhow::Result<u8> {
+    let Ok(number) = word.parse::<u8>() else {
+        bail!("the {what} '{word}' is no number from 0 to 255");
+    };
+    Ok(number)
 }
 
 // The bytes of a word, or those that its hexadecimal digits spell.
@@ -25,11 +23,9 @@ fn spelled(heap: Global, digits: &str) -> anyhow::Result<Vec<u8>> {
     match bytes_of(heap, digits) {
         Ok(bytes) => Ok(bytes),
         Err(TextError::NoDigit { .. }) => {
-            Err(anyhow!("the text has a character that is no hexadecimal digit"))
+            bail!("the text has a character that is no hexadecimal digit")
         }
-        Err(TextError::OddDigits(_)) => {
-            Err(anyhow!("the text has an odd number of hexadecimal digits"))
-        }
+        Err(TextError::OddDigits(_)) => bail!("the text has an odd number of hexadecimal digits"),
         Err(TextError::OutOfMemory) => Err(TextError::OutOfMemory.into()),
     }
 }

@@ -4,7 +4,7 @@
 mod arguments;
 
 use alert::alert::{Alert, AlertHead};
-use anyhow::anyhow;
+use anyhow::bail;
 use arguments::{bytes_in, number_in};
 use contents::contents::Contents;
 use family::family::Family;
@@ -42,8 +42,8 @@ fn run(rt: &HostRuntime) -> anyhow::Result<()> {
         }
         [kind, sequence, priority, encoding, text] if kind.as_str() == "message" => {
             let head = MessageHead {
-                priority: number_in(rt.alloc(), priority.as_str(), "priority")?,
-                encoding: number_in(rt.alloc(), encoding.as_str(), "encoding")?,
+                priority: number_in(priority.as_str(), "priority")?,
+                encoding: number_in(encoding.as_str(), "encoding")?,
             };
             print_cut(
                 rt,
@@ -56,14 +56,14 @@ fn run(rt: &HostRuntime) -> anyhow::Result<()> {
         }
         [kind, sequence, encoding, control, text] if kind.as_str() == "alert" => {
             let head = AlertHead {
-                encoding: number_in(rt.alloc(), encoding.as_str(), "encoding")?,
-                control_length: number_in(rt.alloc(), control.as_str(), "control length")?,
+                encoding: number_in(encoding.as_str(), "encoding")?,
+                control_length: number_in(control.as_str(), "control length")?,
             };
             print_alert(rt, head, sequence.as_str(), text.as_str())
         }
         _ => {
             eprintln!(rt; "{USAGE}")?;
-            Err(anyhow!("bad arguments"))
+            bail!("bad arguments")
         }
     }
 }
@@ -79,7 +79,7 @@ fn print_alert(
     text: &str,
 ) -> anyhow::Result<()> {
     let Ok(alerts) = Alert::new(GENERATOR) else {
-        return Err(anyhow!("the alert generator is not allowed"));
+        bail!("the alert generator is not allowed");
     };
     print_cut(rt, &alerts, Place::Alert, head, sequence, text)
 }
@@ -93,7 +93,7 @@ fn print_cut<F: Family>(
     sequence: &str,
     text: &str,
 ) -> anyhow::Result<()> {
-    let sequence = number_in(rt.alloc(), sequence, "sequence number")?;
+    let sequence = number_in(sequence, "sequence number")?;
     let bytes = bytes_in(rt.alloc(), text)?;
     let text = accepted(rt, Text::new(bytes.as_slice()))?;
     let record = Record { head, text };
@@ -125,7 +125,7 @@ fn accepted<T>(rt: &HostRuntime, answer: Result<T, Refusal>) -> anyhow::Result<T
         Ok(value) => Ok(value),
         Err(refusal) => {
             eprintln!(rt; "frames: the text is refused, {refusal}")?;
-            Err(anyhow!("refused"))
+            bail!("refused")
         }
     }
 }

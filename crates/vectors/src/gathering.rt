@@ -9,8 +9,8 @@ use std::test::Fail;
 #[test]
 fn the_message_test_is_shown(rt: HostRuntime) -> Result<(), Fail> {
     let mut place = Gatherer::new(StationMessage);
-    assert_eq!(rt; place.offer(0x24154455354)?.number(), 2);
-    assert_eq!(rt; place.offer(0x24154455354)?.number(), 3);
+    assert_eq!(rt; u8::from(place.offer(0x24154455354)?), 2);
+    assert_eq!(rt; u8::from(place.offer(0x24154455354)?), 3);
     let mut buffer = [7; 6];
     assert_eq!(rt; place.copy_text(&mut buffer)?, 4);
     assert_eq!(rt; buffer, [0x54, 0x45, 0x53, 0x54, 7, 7]);
@@ -21,7 +21,7 @@ fn the_message_test_is_shown(rt: HostRuntime) -> Result<(), Fail> {
 #[test]
 fn the_name_a_is_shown(rt: HostRuntime) -> Result<(), Fail> {
     let mut place = Gatherer::new(Name);
-    assert_eq!(rt; place.offer(0x8200000000000)?.number(), 2);
+    assert_eq!(rt; u8::from(place.offer(0x8200000000000)?), 2);
     let mut buffer = [7; 2];
     assert_eq!(rt; place.copy_text(&mut buffer)?, 1);
     assert_eq!(rt; buffer, [0x41, 7]);
@@ -31,9 +31,9 @@ fn the_name_a_is_shown(rt: HostRuntime) -> Result<(), Fail> {
 #[test]
 fn an_alert_of_two_frames_is_shown(rt: HostRuntime) -> Result<(), Fail> {
     let mut place = Gatherer::new(Alert::new(9)?);
-    assert_eq!(rt; place.offer(0x7003000000)?.number(), 1);
+    assert_eq!(rt; u8::from(place.offer(0x7003000000)?), 1);
     assert_eq!(rt; place.missing()?, 2);
-    assert_eq!(rt; place.offer(0x10000000000000)?.number(), 2);
+    assert_eq!(rt; u8::from(place.offer(0x10000000000000)?), 2);
     assert_eq!(rt; place.shown_head()?.control_length, 3);
     let mut buffer = [7; 8];
     assert_eq!(rt; place.copy_text(&mut buffer)?, 7);

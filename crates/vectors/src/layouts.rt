@@ -1,23 +1,26 @@
 // The three layouts: how many frames a text needs, and which texts and frames are refused.
+use crate::refusals::number_of;
 use alert::alert::{Alert, AlertHead};
 use family::family::Family;
 use family::text::{Record, Text};
 use name::name::Name;
+use pdu::refusal::Refusal;
 use station_message::message::{MessageHead, StationMessage};
 use std::test::Fail;
-use transport::transport::read;
+use transport::families::Families;
 
 const LETTERS: [u8; 400] = [65; 400];
 
+fn count<F: Family>(family: &F, head: F::Head, bytes: &[u8]) -> Result<usize, Refusal> {
+    let text = Text::new(bytes)?;
+    family.frame_count(&Record { head, text })
+}
+
 // The number of frames, or 100 and the refusal's number.
 fn frames<F: Family>(family: &F, head: F::Head, bytes: &[u8]) -> usize {
-    let text = match Text::new(bytes) {
-        Ok(text) => text,
-        Err(refused) => return usize::from(refused.number()).saturating_add(100),
-    };
-    match family.frame_count(&Record { head, text }) {
+    match count(family, head, bytes) {
         Ok(count) => count,
-        Err(refused) => usize::from(refused.number()).saturating_add(100),
+        Err(refused) => usize::from(u8::from(refused)).saturating_add(100),
     }
 }
 
@@ -26,10 +29,10 @@ fn message(length: usize) -> usize {
         priority: 0,
         encoding: 0,
     };
-    if length > 400 {
-        return 0;
+    match LETTERS.get(0..length) {
+        Some(letters) => frames(&StationMessage, head, letters),
+        None => 0,
     }
-    frames(&StationMessage, head, &LETTERS[0..length])
 }
 
 #[test]
@@ -53,12 +56,8 @@ fn frames_of_a_name(rt: HostRuntime) {
     assert_eq!(rt; frames(&Name, (), &[0x41, 0x80]), 120);
 }
 
-// The number of the refusal, or 0.
 fn generator(generator: u8) -> u8 {
-    match Alert::new(generator) {
-        Ok(_) => 0,
-        Err(refused) => refused.number(),
-    }
+    number_of(Alert::new(generator))
 }
 
 #[test]
@@ -82,10 +81,11 @@ fn frames_of_an_alert(rt: HostRuntime) -> Result<(), Fail> {
 fn an_unlawful_frame_is_refused_last(rt: HostRuntime) -> Result<(), Fail> {
     let alerts = Alert::new(9)?;
     let bytes = [0x14, 0, 0, 0, 0, 0, 0, 0, 0x00, 0x28];
-    let answer = match read(&Name, &StationMessage, &alerts, &bytes) {
-        Ok(_) => 0,
-        Err(refused) => refused.number(),
+    let families = Families {
+        name: &Name,
+        message: &StationMessage,
+        alert: &alerts,
     };
-    assert_eq!(rt; answer, 18);
+    assert_eq!(rt; number_of(families.read(&bytes)), 18);
     Ok(())
 }

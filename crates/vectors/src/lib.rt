@@ -11,4 +11,6 @@ mod messages;
 mod pairs;
 #[cfg(test)]
 mod reading;
+#[cfg(test)]
+mod refusals;
 pub mod worked;

@@ -1,35 +1,33 @@
 // Single messages: the edges of their fields, read and written.
-use message::location::{Angle, LatitudeHalf, LocationHalf, LongitudeHalf};
+use crate::refusals::number_of;
+use message::location::{Angle, Half, LocationHalf};
 use message::message::Message;
 use message::parameter::Parameter;
+use pdu::refusal::Refusal;
 
 fn parsed(number: u8, payload: u64) -> u8 {
-    match Message::parse(number, payload) {
-        Ok(_) => 0,
-        Err(refused) => refused.number(),
+    number_of(Message::parse(number, payload))
+}
+
+// What is read again of the half that is written.
+fn read_again(half: LocationHalf) -> Result<Message, Refusal> {
+    let payload = Message::Location(half).payload()?;
+    Message::parse(4, payload)
+}
+
+fn at<const LIMIT: u32>(units: i32) -> Half<LIMIT> {
+    Half {
+        angle: Angle(units),
+        altitude: 15,
     }
 }
 
 fn latitude(units: i32) -> u8 {
-    let half = LatitudeHalf {
-        angle: Angle(units),
-        altitude: 15,
-    };
-    match Message::Location(LocationHalf::Latitude(half)).payload() {
-        Ok(payload) => parsed(4, payload),
-        Err(refused) => refused.number(),
-    }
+    number_of(read_again(LocationHalf::Latitude(at(units))))
 }
 
 fn longitude(units: i32) -> u8 {
-    let half = LongitudeHalf {
-        angle: Angle(units),
-        altitude: 15,
-    };
-    match Message::Location(LocationHalf::Longitude(half)).payload() {
-        Ok(payload) => parsed(4, payload),
-        Err(refused) => refused.number(),
-    }
+    number_of(read_again(LocationHalf::Longitude(at(units))))
 }
 
 #[test]

@@ -1,6 +1,7 @@
 // Every pair of message numbers in one PDU.
 ghost use Rattle.std.specs.Prelude.{◌≤◌};
 
+use crate::refusals::number_of;
 use contents::contents::Contents;
 use pdu::fields::Fields;
 use pdu::pdu::Pdu;
@@ -53,10 +54,7 @@ fn answer(first: u8, second: u8) -> u8 {
     let Ok(pdu) = Pdu::try_from(fields) else {
         return 255;
     };
-    match Contents::decode(pdu) {
-        Ok(_) => 0,
-        Err(refused) => refused.number(),
-    }
+    number_of(Contents::decode(pdu))
 }
 
 #[test]

@@ -1,15 +1,13 @@
 // Whole PDUs: which are refused, and what accepted ones say.
+use crate::refusals::number_of;
 use crate::worked::worked_pdus;
 use contents::contents::Contents;
 use message::message::Message;
+use pdu::refusal::Refusal;
 use std::test::Fail;
 
-// The number of the refusal, or 0.
 fn refusal(bytes: &[u8]) -> u8 {
-    match Contents::read(bytes) {
-        Ok(_) => 0,
-        Err(refused) => refused.number(),
-    }
+    number_of(Contents::read(bytes))
 }
 
 #[test]
@@ -36,18 +34,20 @@ fn worked_bytes_are_written_again(rt: HostRuntime) -> Result<(), Fail> {
     Ok(())
 }
 
-#[test]
-fn countries(rt: HostRuntime) -> Result<(), Fail> {
-    let mut codes = [0; 3];
-    for (i, bytes) in worked_pdus().iter().take(3).enumerate() {
-        if let Message::StationId(id) = Contents::read(bytes)?.first {
-            if i < 3 {
-                codes[i] = id.country.0;
-            }
-        }
+// The country of a station ID.
+fn country(bytes: &[u8]) -> Result<Option<u16>, Refusal> {
+    match Contents::read(bytes)?.first {
+        Message::StationId(id) => Ok(Some(id.country.0)),
+        _ => Ok(None),
     }
-    assert_eq!(rt; codes, [64, 64, 658]);
-    Ok(())
+}
+
+#[test]
+fn countries(rt: HostRuntime) {
+    let [first, second, third, ..] = worked_pdus();
+    assert_eq!(rt; country(&first), Ok(Some(64)));
+    assert_eq!(rt; country(&second), Ok(Some(64)));
+    assert_eq!(rt; country(&third), Ok(Some(658)));
 }
 
 #[test]
@@ -55,11 +55,7 @@ fn a_refused_write_leaves_the_buffer(rt: HostRuntime) -> Result<(), Fail> {
     let [first, ..] = worked_pdus();
     let contents = Contents::read(&first)?;
     let mut short = [7; 9];
-    let answer = match contents.write(&mut short) {
-        Ok(()) => 0,
-        Err(refused) => refused.number(),
-    };
-    assert_eq!(rt; answer, 11);
+    assert_eq!(rt; number_of(contents.write(&mut short)), 11);
     assert_eq!(rt; short, [7; 9]);
     Ok(())
 }

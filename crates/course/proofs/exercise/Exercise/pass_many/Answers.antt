@@ -1,15 +1,15 @@
 use Rattle.std.proofs.Common.{◌≡◌, ℕ, ◌∷◌, is_err, sym, ap, ◌∙◌, add-one, arith}
 use Rattle.card.specs.Calls.{draw}
-use Rattle.course.proofs.exercise.running.pass_many.Goals as goal
+use Rattle.course.proofs.exercise.Exercise.pass_many.Goals as goal
 
 pub returns-in_err-pass_one : goal.returns-in_err-pass_one
 returns-in_err-pass_one g c n m e st a r =
-    let k = c.loop-i.invariant n m e st a r in
+    let k = c.loop.invariant n m e st a r in
     let w = c.pass_one.ensures n m e st k.0 k.1 in
     record { run = w.run; ran = w.ran; calls_are = λ ok. absurd (let f = sym (ap is_err ok) ∙ c.from_residual.ensures.0 in let z : ◌≡◌ {A = ℕ} 0 1 = cc in omega arith) }
 
-pub loop-i-preserved : goal.loop-i-preserved
-loop-i-preserved g c n m e st a r =
-    let k = c.loop-i.invariant n m e st a r in
+pub loop-preserved : goal.loop-preserved
+loop-preserved g c n m e st a r =
+    let k = c.loop.invariant n m e st a r in
     let w = c.pass_one.ensures n m e st k.0 k.1 in
-    (w.run, w.ran, rw (add-one c.loop-i.i) (w.calls_are c.in_ok-pass_one.was ∙ ap (λ h. draw 10 ∷ h) k.2))
+    (w.run, w.ran, rw (add-one c.loop.counter) (w.calls_are c.in_ok-pass_one.was ∙ ap (λ h. draw 10 ∷ h) k.2))

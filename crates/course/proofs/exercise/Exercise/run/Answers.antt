@@ -1,6 +1,6 @@
 use Rattle.std.proofs.Common.{◌≡◌, ℕ, is_err, sym, ap, ◌∙◌, arith}
 use Rattle.course.specs.Exercise.{drawn_times, message_changed}
-use Rattle.course.proofs.exercise.running.run.Goals as goal
+use Rattle.course.proofs.exercise.Exercise.run.Goals as goal
 
 pub returns : goal.returns
 returns g c n m e st a k =

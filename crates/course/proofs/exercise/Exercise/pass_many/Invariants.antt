@@ -1,0 +1,12 @@
+use Rattle.std.proofs.Common.{◌≡◌, List}
+use Rattle.transport.specs.declared.head.Head.{Head}
+use Rattle.transport.specs.Families.{families}
+use Rattle.card.specs.declared.station.Station.{Station}
+use Rattle.air.specs.Runs.{Step, card_calls}
+use Rattle.bench.specs.Ran.{Ran, InEveryHistory}
+use Rattle.course.specs.Exercise.{drawn_times}
+use Rattle.course.proofs.exercise.Exercise.pass_many.Given as goal
+
+abbrev pub invariant-loop : goal.invariant-loop
+invariant-loop g l =
+    InEveryHistory g.N.Family.meaning g.M.Family.meaning g.E.Family.meaning l.initial.self.bench (λ f st a. (b : List (Step (Head g.row.N-Head.Denot g.row.M-Head.Denot g.row.E-Head.Denot))) × Ran f st b l.self.bench × (card_calls b ≡ drawn_times l.counter (card_calls a)))

@@ -1,0 +1,10 @@
+// Refusals as the vectors tell them.
+use pdu::refusal::Refusal;
+
+// The number of the refusal, or 0.
+pub(crate) fn number_of<T: Drop>(answer: Result<T, Refusal>) -> u8 {
+    match answer {
+        Ok(_) => 0,
+        Err(refusal) => u8::from(refusal),
+    }
+}
