@@ -1,5 +1,5 @@
 // The message area: fields that follow one another, highest bit first, and the sizes that must fit in.
-ghost use Rattle.std.specs.Prelude.{◌≡◌, ℕ, ◌+◌, ◌-◌, ◌^◌, ◌<◌, ◌≤◌, IfOk, if◌then◌else◌};
+ghost use Rattle.std.specs.Prelude.{◌≡◌, ◌+◌, ◌-◌, ◌^◌, ◌<◌, ◌≤◌, IfOk, if◌then◌else◌};
 ghost use Rattle.contents.specs.Area.{upper, lower, joined, size_within, first_size};
 
 use message::size::payload_size;

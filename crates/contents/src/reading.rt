@@ -1,5 +1,5 @@
 // Contents read from the fields of a PDU.
-ghost use Rattle.std.specs.Prelude.{◌≡◌, ℕ, ◌+◌, ◌-◌, ◌^◌, ◌<◌, ◌≤◌, true, false};
+ghost use Rattle.std.specs.Prelude.{◌≡◌, ◌-◌, ◌^◌, ◌<◌, ◌≤◌};
 ghost use Rattle.contents.specs.Area.{upper, lower, size_within};
 ghost use Rattle.contents.specs.Contents.{contents_of, both_messages, contents_with, if_nothing_left};
 

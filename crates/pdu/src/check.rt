@@ -1,5 +1,5 @@
 // The check of a PDU: the remainder of its polynomial.
-ghost use Rattle.std.specs.Prelude.{◌≡◌, ℕ, ◌+◌, ◌*◌, ◌<◌};
+ghost use Rattle.std.specs.Prelude.{◌≡◌, ◌<◌};
 ghost use Rattle.pdu.specs.Check.{coefficient, coefficients, check_of, generator};
 ghost use Rattle.pdu.specs.Division.{OnlyRemainder};
 

@@ -1,5 +1,5 @@
 // Long division of polynomials, and of a text whose bits are the coefficients.
-ghost use Rattle.std.specs.Prelude.{◌≡◌, ℕ, ◌+◌, ◌*◌, ◌^◌, ◌<◌, ◌≤◌};
+ghost use Rattle.std.specs.Prelude.{◌≡◌, ◌+◌, ◌*◌, ◌^◌, ◌<◌, ◌≤◌};
 ghost use Rattle.pdu.specs.Division.{lowered, divided, OnlyRemainder};
 ghost use Rattle.pdu.specs.Dividend.{bits_of, dividend, text_remainder};
 

@@ -1,6 +1,6 @@
 // The fields of a PDU between its type and its check.
-ghost use Rattle.std.specs.Prelude.{◌≡◌, ℕ, ◌+◌, ◌*◌, ◌%◌, ◌^◌, ◌<◌, true, Ok};
-ghost use Rattle.pdu.specs.Fields.{IsRead, IsWritten, fields_of, tested, fit, bit_of, unchecked_number};
+ghost use Rattle.std.specs.Prelude.{◌≡◌, ◌%◌, ◌^◌, ◌<◌, true};
+ghost use Rattle.pdu.specs.Fields.{IsRead, IsWritten, fields_of, tested, fit, unchecked_number};
 
 use crate::pdu::Pdu;
 use crate::refusal::Refusal;

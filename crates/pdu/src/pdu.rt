@@ -1,5 +1,5 @@
 // A PDU: ten bytes, copied and passed on whole.
-ghost use Rattle.std.specs.Prelude.{◌≡◌, ℕ, ◌^◌, ◌<◌};
+ghost use Rattle.std.specs.Prelude.{◌≡◌, ◌^◌, ◌<◌};
 ghost use Rattle.pdu.specs.Bytes.{Spells, taken, bytes_of};
 
 use crate::refusal::Refusal;
