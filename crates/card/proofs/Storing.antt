@@ -1,7 +1,9 @@
 -- A store, at its place and at the others.
-use Rattle.std.proofs.Common.{◌≡◌, ℕ, List, ◌∷◌, Some, None, Err, Option, Result, refl, ap, ◌∙◌}
-use Rattle.std.proofs.lemmas.Bool.{eq-eqb}
+use Rattle.std.proofs.Common.{◌≡◌, ℕ, List, ◌∷◌, Some, None, Err, Option, Result, refl, ap, ◌∙◌, eqb, false, inl, inr, subst}
+use Rattle.std.proofs.lemmas.Bool.{eq-eqb, cases_eq, ne_eqb}
 use Rattle.pdu.specs.declared.refusal.Refusal.{Refusal}
+use Rattle.message.specs.declared.place.Place.{Place}
+use Rattle.message.specs.declared.place.Place.TheVariants.{Name, Message, Alert}
 use Rattle.message.specs.Place.{place_number, place_with}
 use Rattle.family.specs.Meaning.{RecordOf}
 use Rattle.transport.specs.Families.{PlaceOf}
@@ -37,3 +39,12 @@ stored_at {S} {T} {R} p h n r x answer a b place head agrees refuses unchanged a
           (let is = refuses e (ap (λ v. m.refusal v y) agrees.family_is ∙ refused) in record { answer_is = rw (own, refused) is; agrees = rw (t, own, refused, unchanged e is) agrees })
     ] in
     go (m.refusal s y) refl
+
+given : (p : Place) → place_with (place_number p) ≡ None → ⊥
+given Name e = cc
+given Message e = cc
+given Alert e = cc
+
+-- a number that is no place's is not that of any
+pub no_place : (n : ℕ) (p : Place) → place_with n ≡ None → eqb n (place_number p) ≡ false
+no_place n p e = elim (cases_eq n (place_number p)) [ inl same ↦ absurd (given p (subst (λ k. place_with k ≡ None) same e)) | inr other ↦ ne_eqb n (place_number p) other ]
