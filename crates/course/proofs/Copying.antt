@@ -1,5 +1,5 @@
 -- A text copied to a buffer, and made of what it left there.
-use Rattle.std.proofs.Common.{◌≡◌, ℕ, leb, ◌-◌, ◌<◌, ◌≤◌, cond, List, length, take, drop, Some, None, Ok, Err, Option, Result, sym, refl, ap, ◌∙◌, arith}
+use Rattle.std.proofs.Common.{◌≡◌, ℕ, leb, ◌<◌, ◌≤◌, List, length, take, Some, None, Ok, Err, Result, refl, ap, ◌∙◌, arith}
 use Rattle.std.proofs.lemmas.Bool.{cond-true, le-leb}
 use Rattle.std.specs.Result.{result_ok}
 use Rattle.pdu.specs.declared.refusal.Refusal.{Refusal}

@@ -1,4 +1,4 @@
-use Rattle.std.proofs.Common.{◌≡◌, ℕ, ◌<◌, ◌≤◌, Some, None, replicate, take, sym, refl, ap, ◌∙◌, subst, arith}
+use Rattle.std.proofs.Common.{◌≡◌, ◌≤◌, Some, replicate, take, sym, ap, ◌∙◌, subst, arith}
 use Rattle.transport.specs.Families.{families}
 use Rattle.monitor.specs.Shown.{TextDue}
 use Rattle.course.specs.Shown.{bytes_in}

@@ -1,5 +1,7 @@
 use Rattle.std.proofs.Common.{◌≡◌, ℕ, ◌∷◌, is_err, sym, ap, ◌∙◌, add-one, arith}
 use Rattle.card.specs.Calls.{draw}
+use Rattle.air.specs.Runs.{card_calls}
+use Rattle.course.specs.Exercise.{drawn_times}
 use Rattle.course.proofs.exercise.Exercise.pass_many.Goals as goal
 
 pub returns-in_err-pass_one : goal.returns-in_err-pass_one
@@ -13,3 +15,9 @@ loop-preserved g c n m e st a r =
     let k = c.loop.invariant n m e st a r in
     let w = c.pass_one.ensures n m e st k.0 k.1 in
     (w.run, w.ran, rw (add-one c.loop.counter) (w.calls_are c.in_ok-pass_one.was ∙ ap (λ h. draw 10 ∷ h) k.2))
+
+pub returns : goal.returns
+returns g c n m e st a r =
+    let k = c.loop.invariant n m e st a r in
+    let all : c.loop.counter ≡ c.args.draws = omega arith in
+    record { run = k.0; ran = k.1; calls_are = λ _. k.2 ∙ ap (λ x. drawn_times x (card_calls a)) all }

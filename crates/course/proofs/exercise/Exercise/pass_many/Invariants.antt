@@ -1,7 +1,5 @@
 use Rattle.std.proofs.Common.{◌≡◌, List}
 use Rattle.transport.specs.declared.head.Head.{Head}
-use Rattle.transport.specs.Families.{families}
-use Rattle.card.specs.declared.station.Station.{Station}
 use Rattle.air.specs.Runs.{Step, card_calls}
 use Rattle.bench.specs.Ran.{Ran, InEveryHistory}
 use Rattle.course.specs.Exercise.{drawn_times}
