@@ -71,11 +71,9 @@ impl<'a> Cut<'a> {
         if frames.len() != self.layout.frame_count(self.text.len()) {
             return false;
         }
-        for (i, frame) in frames.iter().enumerate() {
-            if self.frame(i) != *frame {
-                return false;
-            }
-        }
-        true
+        frames
+            .iter()
+            .enumerate()
+            .all(|(i, frame)| self.frame(i) == *frame)
     }
 }
