@@ -1,21 +1,13 @@
 -- Both frames of a record, accepted in turn.
-use Rattle.std.proofs.Common.{◌≡◌, ℕ, ◌<◌, ◌≤◌, Bool, ◌&&◌, ltb, List, [], ◌∷◌, get_or, Some, None, Ok, Err, Option, Result, refl, inl, inr, ⊎_elim, arith}
-use Rattle.std.proofs.lemmas.List.{get_or-take, get_or_past, length-take-le}
-use Rattle.std.proofs.lemmas.Bool.{ltb-true, and_parts, cases_Bool, cases_lt}
+use Rattle.std.proofs.Common.{◌≡◌, ℕ, ◌<◌, Bool, ◌&&◌, ltb, List, [], ◌∷◌, get_or, Some, None, Ok, Err, Option, Result, refl, inl, inr}
+use Rattle.std.proofs.lemmas.Bool.{ltb-true, and_parts, cases_Bool}
 use Rattle.pdu.specs.declared.refusal.Refusal.{Refusal}
 use Rattle.pdu.specs.declared.refusal.Refusal.TheVariants.{OutOfRange}
-use Rattle.family.specs.declared.text.Text.{Text}
-use Rattle.family.specs.Meaning.{RecordOf, Fit, Bytes, unless, frame_due}
-use Rattle.family.specs.Texts.{bytes_of}
+use Rattle.family.specs.Meaning.{RecordOf, Fit, unless, frame_due}
 use Rattle.gatherer.specs.Series.{Event}
 use Rattle.gatherer.specs.Promises.{HeardWhole, accepted_after}
 use Rattle.gatherer_tests.specs.declared.two.Two.{Two}
 use Rattle.gatherer_tests.specs.Two.{meaning_of_two}
-
-pub bytes_of_text : (t : Text) → Bytes (bytes_of t)
-bytes_of_text t i =
-    ⊎_elim (λ (l : i < t.len). let e = get_or-take t.len t.bytes i 0 l in omega (arith, e, t.small i))
-    (λ (l : t.len ≤ i). let e = get_or_past (bytes_of t) i 0 (let n = length-take-le t.len t.bytes (omega (arith, t.within, t.whole)) in omega (arith, n)) in omega (arith, e)) (cases_lt i t.len)
 
 not_refused : {A : Type 0} (o : Option Refusal) (a : Result A Refusal) (x : A) → unless o a ≡ Ok x → (o ≡ None) × (a ≡ Ok x)
 not_refused None a x e = (refl, e)

@@ -1,9 +1,9 @@
 use Rattle.family.specs.Texts.{record_view}
-use Rattle.airing.proofs.Texts.{bytes_of_text}
+use Rattle.family.proofs.Records.{bytes_small}
 use Rattle.airing.proofs.Steps.{accepted}
 use Rattle.airing.proofs.place.Place.store.Goals as goal
 
 pub returns-in-None-clause-accepted : goal.returns-in-None-clause-accepted
 returns-in-None-clause-accepted g c s h k lawful =
     let e = c.accept.ensures in
-    accepted g.F.Family.meaning s h c.args.self.now c.accept.new.self k g.met.F.Family.keeps (record_view c.args.record) c.accept.result lawful (bytes_of_text c.args.record.text) e.answer e.family e.current e.on_air
+    accepted g.F.Family.meaning s h c.args.self.now c.accept.new.self k g.met.F.Family.keeps (record_view c.args.record) c.accept.result lawful (bytes_small c.args.record.text) e.answer e.family e.current e.on_air
