@@ -22,12 +22,3 @@ impl From<Answer> for u8 {
         answer as u8
     }
 }
-
-impl Answer {
-    // The number under which the answer is known to programs.
-    pub fn number(self) -> u8
-        ensures { result ≡ number_of self }
-    {
-        u8::from(self)
-    }
-}

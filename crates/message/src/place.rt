@@ -1,6 +1,6 @@
 // The places of texts: each kind of text has its message number.
 ghost use Rattle.std.specs.Prelude.{◌≡◌};
-ghost use Rattle.message.specs.Place.{place_number, place_with, place_taken};
+ghost use Rattle.message.specs.Place.{place_number, place_taken};
 
 use pdu::refusal::Refusal;
 
@@ -37,21 +37,5 @@ impl TryFrom<u8> for Place {
             9 => Ok(Place::Alert),
             _ => Err(Refusal::HeadSettingOrPlace),
         }
-    }
-}
-
-impl Place {
-    // The message number of the frames that this place takes.
-    pub fn number(self) -> u8
-        ensures { result ≡ place_number self }
-    {
-        u8::from(self)
-    }
-
-    // The place whose frames have this message number.
-    pub fn with_number(number: u8) -> Option<Place>
-        ensures { result ≡ place_with number }
-    {
-        Place::try_from(number).ok()
     }
 }

@@ -33,13 +33,6 @@ impl From<Refusal> for u8 {
 }
 
 impl Refusal {
-    // The number under which the refusal is known to programs.
-    pub fn number(self) -> u8
-        ensures { result ≡ number_of self }
-    {
-        u8::from(self)
-    }
-
     // What was wrong, for a person.
     pub fn phrase(self) -> &'static str
         ensures { result.now ≡ phrase_of self }
