@@ -5,7 +5,7 @@ use Rattle.pdu.specs.declared.refusal.Refusal.{Refusal}
 use Rattle.message.specs.Place.{place_number}
 use Rattle.family.specs.Meaning.{RecordOf, unless}
 use Rattle.transport.specs.declared.head.Head.{Head}
-use Rattle.transport.specs.Families.{FamilyOf, Families, PlaceOf, name_place, message_place, alert_place}
+use Rattle.transport.specs.Families.{FamilyOf, Families, PlaceOf}
 use Rattle.airing.specs.declared.stored.Stored.{Stored}
 use Rattle.airing.specs.declared.stored.Stored.TheVariants.{Changed, Unchanged}
 use Rattle.airing.specs.Calls.{Call as PlaceCall, drawn, is_change, changes}
@@ -47,20 +47,12 @@ module _ {S T R : Type 0} (p : PlaceOf S T R) (h : List (CardCall R)) (n : ℕ) 
   counted_elsewhere other answer = rw (ne_eqb n (place_number p.place) other) (sym (add-zero (length (changes (calls_at p h)))))
 
 module _ {N T M U E V : Type 0} (f : Families N T M U E V) (a : List (Step (Head T U V))) (n : ℕ) (r : RecordOf (Head T U V)) (answer : Result Stored Refusal) (is : answer ≡ store_due f (card_calls a) n r) where
-  pub name_counted : (count : ℕ) → count ≡ stopped (changes_in (name_place f) a) → counted_if (eqb n 2 && is_changed answer) count ≡ stopped (changes_in (name_place f) (card (store n r) ∷ a))
-  name_counted count e =
-      count_step (eqb n 2 && is_changed answer) count _ _ e
-      (elim (cases_eq n 2) [ inl same ↦ counted_here (name_place f) (card_calls a) n r same answer (is ∙ ap (λ (k : ℕ). store_due f (card_calls a) k r) same) | inr other ↦ counted_elsewhere (name_place f) (card_calls a) n r other answer ])
-
-  pub message_counted : (count : ℕ) → count ≡ stopped (changes_in (message_place f) a) → counted_if (eqb n 5 && is_changed answer) count ≡ stopped (changes_in (message_place f) (card (store n r) ∷ a))
-  message_counted count e =
-      count_step (eqb n 5 && is_changed answer) count _ _ e
-      (elim (cases_eq n 5) [ inl same ↦ counted_here (message_place f) (card_calls a) n r same answer (is ∙ ap (λ (k : ℕ). store_due f (card_calls a) k r) same) | inr other ↦ counted_elsewhere (message_place f) (card_calls a) n r other answer ])
-
-  pub alert_counted : (count : ℕ) → count ≡ stopped (changes_in (alert_place f) a) → counted_if (eqb n 9 && is_changed answer) count ≡ stopped (changes_in (alert_place f) (card (store n r) ∷ a))
-  alert_counted count e =
-      count_step (eqb n 9 && is_changed answer) count _ _ e
-      (elim (cases_eq n 9) [ inl same ↦ counted_here (alert_place f) (card_calls a) n r same answer (is ∙ ap (λ (k : ℕ). store_due f (card_calls a) k r) same) | inr other ↦ counted_elsewhere (alert_place f) (card_calls a) n r other answer ])
+  -- the count of a place, of whose number the answer due is that of the place
+  pub counted_at : {S X : Type 0} (p : PlaceOf S X (Head T U V)) → store_due f (card_calls a) (place_number p.place) r ≡ store_due_at p (card_calls a) r → (count : ℕ) → count ≡ stopped (changes_in p a) →
+      counted_if (eqb n (place_number p.place) && is_changed answer) count ≡ stopped (changes_in p (card (store n r) ∷ a))
+  counted_at p due count e =
+      count_step (eqb n (place_number p.place) && is_changed answer) count _ _ e
+      (elim (cases_eq n (place_number p.place)) [ inl same ↦ counted_here p (card_calls a) n r same answer (is ∙ ap (λ (k : ℕ). store_due f (card_calls a) k r) same ∙ due) | inr other ↦ counted_elsewhere p (card_calls a) n r other answer ])
 
 -- offers are no calls of the card
 pub offers_skipped : {R : Type 0} (os : List (List ℕ)) (a : List (Step R)) → card_calls (with_offers os a) ≡ card_calls a

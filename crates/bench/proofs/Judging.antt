@@ -1,5 +1,5 @@
 -- The verdict, from the counts of a run.
-use Rattle.std.proofs.Common.{◌≡◌, ℕ, Bool, true, false, cond, ◌&&◌, eqb, leb, List, refl, arith}
+use Rattle.std.proofs.Common.{◌≡◌, Bool, true, false, cond, ◌&&◌, eqb, leb, List, refl, arith}
 use Rattle.std.proofs.lemmas.Bool.{eqb-true, leb-true, and_parts}
 use Rattle.family.specs.Meaning.{Laws}
 use Rattle.transport.specs.declared.head.Head.{Head}
@@ -13,7 +13,7 @@ use Rattle.bench.specs.Ran.{Ran, ShowsAllChanges, few_at_each, verdict_on}
 
 covered_if : (b : Bool) → cond b Covered NotCovered ≡ Covered → b ≡ true
 covered_if true e = refl
-covered_if false e = absurd (let z : ◌≡◌ {A = ℕ} 0 1 = cc in omega arith)
+covered_if false e = cc
 
 module _ {N T M U E V : Type 0} (f : Families N T M U E V) (st : Station) (a : List (Step (Head T U V))) (b : Bench N M E T U V) where
   pub shows_all : Laws f.name.meaning → Laws f.message.meaning → Laws f.alert.meaning → Ran f st a b → verdict_on b.tally ≡ Covered → ShowsAllChanges f a

@@ -28,7 +28,7 @@ module _ {N T M U E V : Type 0} (f : Families N T M U E V) (st : Station) (a : L
 
   refused_if : (bit : ℕ) (r : Result (Option Answer) Refusal) → ((e : Refusal) → r ≡ Err e → Relayed f st a → Relayed f st (monitor (offer (bit_turned bit p.bytes)) ∷ a)) → is_accepted (Some r) ≡ false →
       Relayed f st a → Relayed f st (monitor (offer (bit_turned bit p.bytes)) ∷ a)
-  refused_if bit (Ok x) k e = absurd (let z : ◌≡◌ {A = ℕ} 0 1 = cc in omega arith)
+  refused_if bit (Ok x) k e = cc
   refused_if bit (Err x) k e = k x refl
 
   pub sent_turned : (bit : ℕ) (r : Result (Option Answer) Refusal) (l : Link N M E T U V) → SpoiltSo f st a (bit_turned bit p.bytes) r l → SentSo f st a p.bytes (Turned bit) (Some r) None l

@@ -1,7 +1,7 @@
-use Rattle.std.proofs.Common.{ap, ap₂, ◌∙◌}
+use Rattle.std.proofs.Common.{refl, ap, ap₂, ◌∙◌}
 use Rattle.family.specs.Texts.{record_view}
-use Rattle.transport.specs.Families.{families}
-use Rattle.bench.proofs.Counting.{refused_counts_none, name_counted, message_counted, alert_counted}
+use Rattle.transport.specs.Families.{families, name_place, message_place, alert_place}
+use Rattle.bench.proofs.Counting.{refused_counts_none, counted_at}
 use Rattle.bench.proofs.bench.Bench.store.Goals as goal
 
 pub returns : goal.returns
@@ -21,9 +21,9 @@ returns g c =
             ran = record {
               linked = s.linked;
               relayed = k.relayed;
-              name_changes = ap (λ x. x.name) counted ∙ name_counted f a c.args.number r c.store-answer.result s.answer_is c.args.self.now.tally.changes.name k.name_changes;
-              message_changes = ap (λ x. x.message) counted ∙ message_counted f a c.args.number r c.store-answer.result s.answer_is c.args.self.now.tally.changes.message k.message_changes;
-              alert_changes = ap (λ x. x.alert) counted ∙ alert_counted f a c.args.number r c.store-answer.result s.answer_is c.args.self.now.tally.changes.alert k.alert_changes;
+              name_changes = ap (λ x. x.name) counted ∙ counted_at f a c.args.number r c.store-answer.result s.answer_is (name_place f) refl t.changes.name k.name_changes;
+              message_changes = ap (λ x. x.message) counted ∙ counted_at f a c.args.number r c.store-answer.result s.answer_is (message_place f) refl t.changes.message k.message_changes;
+              alert_changes = ap (λ x. x.alert) counted ∙ counted_at f a c.args.number r c.store-answer.result s.answer_is (alert_place f) refl t.changes.alert k.alert_changes;
             };
           };
       tally = ap (λ v. record { drawn = t.drawn; lost = t.lost; doubled = t.doubled; turned = t.turned; turned_accepted = t.turned_accepted; changes = v }) c.count.ensures;
