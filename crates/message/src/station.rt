@@ -115,7 +115,7 @@ impl Character {
     }
 }
 
-// What a receiver appends to the four characters.
+// What a receiver appends to the four characters. No bool: it is a field of two bits.
 #[derive(Clone, Copy)]
 pub enum CallSignExtension {
     Nothing,

@@ -57,7 +57,7 @@ impl Refusal {
     }
 }
 
-// The number, then the words, as "12: the check differs".
+// The number, then the words, as "12: the check differs". No derive: phrase promises the words.
 impl fmt::Display for Refusal {
     fn fmt<W: fmt::Write>(&self, f: &mut fmt::Formatter<W>) -> fmt::Result {
         let number = u8::from(*self);
