@@ -4,6 +4,7 @@
 mod arguments;
 mod report;
 mod texts;
+mod words;
 
 use alert::alert::Alert;
 use anyhow::bail;

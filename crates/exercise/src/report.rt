@@ -1,13 +1,12 @@
 // What a marker wants to see of a run, in order.
+use crate::words::{LineWords, PieceWords, PlaceName, quoted};
 use airing::stored::Stored;
 use alert::alert::Alert;
 use bench::bench::{Bench, Verdict};
 use course::exercise::{Entry, Exercise};
 use course::shown::shown_text;
 use display::line::{Line, Source, display_line};
-use display::piece::{Piece, pieces};
-use family::text::Text;
-use hexadecimal::printed::{Digits, Quoted};
+use display::piece::pieces;
 use message::place::Place;
 use name::name::Name;
 use pdu::refusal::Refusal;
@@ -92,40 +91,30 @@ impl Report<'_> {
     // The refusals, each with the numbers of the PDUs among those drawn.
     fn refusals<W: fmt::Write>(&self, f: &mut fmt::Formatter<W>) -> fmt::Result {
         writeln!(f, "Refused by the monitor:")?;
-        let mut some = false;
-        for refusal in REFUSALS {
-            some = self.refused(refusal, f)? || some;
+        let refused = |entry: &Entry| matches!(entry, Entry::Refused { .. });
+        if !self.log.iter().any(refused) {
+            return writeln!(f, "  nothing");
         }
-        if !some {
-            writeln!(f, "  nothing")?;
+        for refusal in REFUSALS {
+            self.refused(refusal, f)?;
         }
         Ok(())
     }
 
     // One line for one refusal, if there was any.
-    fn refused<W: fmt::Write>(
-        &self,
-        sought: Refusal,
-        f: &mut fmt::Formatter<W>,
-    ) -> Result<bool, fmt::Error> {
-        let mut some = false;
-        for entry in self.log {
-            let Entry::Refused { drawn, refusal } = entry else {
-                continue;
-            };
-            if *refusal == sought {
-                if some {
-                    write!(f, ", {drawn}")?;
-                } else {
-                    write!(f, "  {refusal}: PDU {drawn}")?;
-                }
-                some = true;
-            }
+    fn refused<W: fmt::Write>(&self, sought: Refusal, f: &mut fmt::Formatter<W>) -> fmt::Result {
+        let mut numbers = self.log.iter().filter_map(|entry| match entry {
+            Entry::Refused { drawn, refusal } if *refusal == sought => Some(*drawn),
+            _ => None,
+        });
+        let Some(first) = numbers.next() else {
+            return Ok(());
+        };
+        write!(f, "  {sought}: PDU {first}")?;
+        for number in numbers {
+            write!(f, ", {number}")?;
         }
-        if some {
-            writeln!(f, "")?;
-        }
-        Ok(some)
+        writeln!(f, "")
     }
 
     fn shown<W: fmt::Write>(&self, f: &mut fmt::Formatter<W>) -> fmt::Result {
@@ -219,58 +208,5 @@ impl Report<'_> {
     // Whether every change arrived: as many texts were newly shown as there were changes.
     fn is_complete(&self) -> bool {
         self.changes().iter().all(|(place, changes)| self.fresh_count(*place) == Ok(*changes))
-    }
-}
-
-#[derive(Clone, Copy)]
-struct PlaceName(Place);
-
-impl fmt::Display for PlaceName {
-    fn fmt<W: fmt::Write>(&self, f: &mut fmt::Formatter<W>) -> fmt::Result {
-        match self.0 {
-            Place::Name => write!(f, "name"),
-            Place::Message => write!(f, "message"),
-            Place::Alert => write!(f, "alert"),
-        }
-    }
-}
-
-#[derive(Clone, Copy)]
-struct PieceWords<'a>(Piece<'a>);
-
-impl fmt::Display for PieceWords<'_> {
-    fn fmt<W: fmt::Write>(&self, f: &mut fmt::Formatter<W>) -> fmt::Result {
-        match self.0 {
-            Piece::Control(part) => {
-                let place = part.place;
-                let digits = Digits(part.bytes);
-                write!(f, "control data from byte {place}: {digits}")
-            }
-            Piece::Text(part) => {
-                let place = part.place;
-                let quoted = quoted(part.bytes);
-                write!(f, "text from byte {place}: {quoted}")
-            }
-        }
-    }
-}
-
-#[derive(Clone, Copy)]
-struct LineWords<'a>(Line<'a>);
-
-impl fmt::Display for LineWords<'_> {
-    fn fmt<W: fmt::Write>(&self, f: &mut fmt::Formatter<W>) -> fmt::Result {
-        let quoted = quoted(self.0.bytes);
-        match self.0.source {
-            Source::Alert => write!(f, "Display line, from the alert: {quoted}"),
-            Source::Message => write!(f, "Display line, from the message: {quoted}"),
-        }
-    }
-}
-
-fn quoted(bytes: &[u8]) -> Quoted<'_> {
-    Quoted {
-        bytes,
-        escape_marks: false,
     }
 }
