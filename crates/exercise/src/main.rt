@@ -3,6 +3,8 @@
 
 mod arguments;
 mod report;
+#[cfg(test)]
+mod tests;
 mod texts;
 mod words;
 
@@ -17,6 +19,7 @@ use message::station::{CallSignExtension, Character, CountryCode, ShortName, Sta
 use name::name::Name;
 use report::Report;
 use station_message::message::StationMessage;
+use std::alloc::Global;
 use std::env;
 use texts::longest_cut;
 
@@ -54,6 +57,16 @@ fn run(rt: &HostRuntime) -> anyhow::Result<()> {
 }
 
 fn perform(rt: &HostRuntime, arguments: Arguments) -> anyhow::Result<()> {
+    let exercise = exercised(rt.alloc(), arguments)?;
+    print!(rt; "{}", Report::of(&exercise))?;
+    Ok(())
+}
+
+// The exercise after its run.
+fn exercised(
+    heap: Global,
+    arguments: Arguments,
+) -> anyhow::Result<Exercise<Name, StationMessage, Alert>> {
     let Ok(alerts) = Alert::new(GENERATOR) else {
         bail!("the alert generator is not allowed");
     };
@@ -66,11 +79,10 @@ fn perform(rt: &HostRuntime, arguments: Arguments) -> anyhow::Result<()> {
     let mut exercise = Exercise {
         bench,
         fading: FadingBox::new(arguments.seed),
-        log: Vec::new(rt.alloc()),
+        log: Vec::new(heap),
     };
     exercise.run(texts, draws)?;
-    print!(rt; "{}", Report::of(&exercise))?;
-    Ok(())
+    Ok(exercise)
 }
 
 fn station() -> Station {
