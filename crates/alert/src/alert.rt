@@ -9,6 +9,7 @@ pub struct Alert {
     ghost odd: { generator % 2 ≡ 1 },
 }
 
+// Plain numbers: others than the lawful ones come here too, from frames and callers, and are refused.
 #[derive(Clone, Copy, PartialEq, Eq, Debug)]
 pub struct AlertHead {
     pub encoding: u8,

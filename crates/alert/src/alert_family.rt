@@ -1,5 +1,6 @@
 // The frames of an alert. Every frame begins with its number in 6 bits, its sequence number in 2 and 2 reserved bits. Frame 0 goes on with the encoding in 3 bits, the length in 9, the check in 7, the control length in 5 and three bytes; a later frame with six bytes.
 ghost use Rattle.std.specs.Prelude.{◌≡◌, length, refl};
+ghost use Rattle.std.specs.Result.{result_err};
 ghost use Rattle.family.specs.Texts.{bytes_of};
 ghost use Rattle.alert.specs.Alert.{frame_layout, alert_layout, lawful_head, lawful_length, alert_refusal, fields_of, check_of, length_in};
 ghost use Rattle.alert.specs.Sound.{sound};
@@ -17,28 +18,26 @@ const LONGEST: usize = 381;
 fn lawful_head(head: AlertHead) -> bool
     ensures { result ≡ lawful_head head }
 {
-    (head.encoding == 0 || head.encoding == 4)
-        && 3 <= head.control_length
-        && head.control_length <= 31
+    matches!(head.encoding, 0 | 4) && (3..=31).contains(&head.control_length)
 }
 
 fn lawful_length(head: AlertHead, length: usize) -> bool
     ensures { result ≡ lawful_length head length }
 {
-    7 <= length && length <= LONGEST && 2 * usize::from(head.control_length) <= length
+    (7..=LONGEST).contains(&length) && 2 * usize::from(head.control_length) <= length
 }
 
-// Why an alert with this head and so many bytes is refused, or none where it is lawful.
-pub fn refusal_of(head: AlertHead, length: usize) -> Option<Refusal>
-    ensures { result ≡ alert_refusal head length }
+// Refuses an alert whose head is not lawful, and then one that does not have a lawful number of bytes for it.
+pub fn require_lawful_alert(head: AlertHead, length: usize) -> Result<(), Refusal>
+    ensures { result_err result ≡ alert_refusal head length }
 {
     if !lawful_head(head) {
-        return Some(Refusal::HeadSettingOrPlace);
+        return Err(Refusal::HeadSettingOrPlace);
     }
     if !lawful_length(head, length) {
-        return Some(Refusal::TextLength);
+        return Err(Refusal::TextLength);
     }
-    None
+    Ok(())
 }
 
 // The fields of an alert's frames.
@@ -87,8 +86,8 @@ impl FamilyLayout for Alert {
 
     ghost sound = { sound };
 
-    fn why_refused(&self, record: &Record<AlertHead>) -> Option<Refusal> {
-        refusal_of(record.head, record.text.len)
+    fn refuse_unlawful(&self, record: &Record<AlertHead>) -> Result<(), Refusal> {
+        require_lawful_alert(record.head, record.text.len)
     }
 
     fn accepts(&self, frame: Payload) -> bool {
@@ -96,7 +95,8 @@ impl FamilyLayout for Alert {
         if frame >= 1 << 58 || (frame >> 48) % 4 != 0 {
             return false;
         }
-        self.number_in(frame) != 0 || refusal_of(self.head_in(frame), length_told(frame)).is_none()
+        self.number_in(frame) != 0
+            || require_lawful_alert(self.head_in(frame), length_told(frame)).is_ok()
     }
 
     fn number_in(&self, frame: Payload) -> usize {
@@ -108,7 +108,7 @@ impl FamilyLayout for Alert {
     }
 
     fn last_in(&self, frame: Payload) -> usize {
-        Self::FRAME_LAYOUT.frame_count(length_told(frame)) - 1
+        Self::FRAME_LAYOUT.last_number(length_told(frame))
     }
 
     fn head_in(&self, frame: Payload) -> AlertHead {

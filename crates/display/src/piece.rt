@@ -3,7 +3,7 @@ ghost use Rattle.std.specs.Prelude.{◌≡◌};
 ghost use Rattle.display.specs.Pieces.{pieces_view, pieces_due};
 
 use alert::alert::AlertHead;
-use alert::alert_family::refusal_of;
+use alert::alert_family::require_lawful_alert;
 use pdu::refusal::Refusal;
 
 // Bytes of a buffer, with the place where they begin in it.
@@ -23,9 +23,7 @@ pub enum Piece<'a> {
 pub fn pieces<'a>(head: AlertHead, bytes: &'a [u8]) -> Result<(Piece<'a>, Piece<'a>), Refusal>
     ensures { pieces_view result ≡ pieces_due head bytes.now }
 {
-    if let Some(refusal) = refusal_of(head, bytes.len()) {
-        return Err(refusal);
-    }
+    require_lawful_alert(head, bytes.len())?;
     let place = 2 * usize::from(head.control_length);
     let (control, text) = bytes.split_at(place);
     let control = Part {

@@ -1,5 +1,6 @@
 // A frame family, by its meaning.
 ghost use Rattle.std.specs.Prelude.{◌≡◌};
+ghost use Rattle.std.specs.Result.{result_err};
 ghost use Rattle.family.specs.Meaning.{Meaning, Laws, count_due, frame_due, number_due, sequence_due, last_due};
 ghost use Rattle.family.specs.Texts.{record_view, join_view};
 
@@ -21,9 +22,9 @@ pub trait Family {
     fn sequence_numbers(&self) -> u8
         ensures { result ≡ meaning.modulus };
 
-    // Why the record is refused, or none where it is lawful.
-    fn refusal(&self, record: &Record<Self::Head>) -> Option<Refusal>
-        ensures { result ≡ meaning.refusal self.now (record_view «record».now) };
+    // Refuses a record that is not lawful.
+    fn require_lawful(&self, record: &Record<Self::Head>) -> Result<(), Refusal>
+        ensures { result_err result ≡ meaning.refusal self.now (record_view «record».now) };
 
     // How many frames the record has.
     fn frame_count(&self, record: &Record<Self::Head>) -> Result<usize, Refusal>

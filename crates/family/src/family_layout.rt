@@ -1,5 +1,6 @@
-// A family whose frames are fields around the bytes of the text, by its layout.
+// What a family tells of its layout. The names differ from Family's, which every layout has too.
 ghost use Rattle.std.specs.Prelude.{◌≡◌, ℕ, ◌≤◌};
+ghost use Rattle.std.specs.Result.{result_err};
 ghost use Rattle.layout.specs.declared.layout.FrameLayout.{FrameLayout};
 ghost use Rattle.family.specs.Texts.{record_view};
 ghost use Rattle.family.specs.Family.{FamilyLayout};
@@ -26,9 +27,9 @@ pub trait FamilyLayout {
 
     ghost layout: { FamilyLayout Self Self.Head };
 
-    // Why the record is refused, or none where it is lawful.
-    fn why_refused(&self, record: &Record<Self::Head>) -> Option<Refusal>
-        ensures { result ≡ layout.refusal self.now (record_view «record».now) };
+    // Refuses a record that is not lawful.
+    fn refuse_unlawful(&self, record: &Record<Self::Head>) -> Result<(), Refusal>
+        ensures { result_err result ≡ layout.refusal self.now (record_view «record».now) };
 
     // Whether the frame is lawful.
     fn accepts(&self, frame: Payload) -> bool

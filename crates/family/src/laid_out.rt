@@ -1,4 +1,4 @@
-// The one family of every layout.
+// Family, implemented for every layout.
 ghost use Rattle.std.specs.Prelude.{◌≡◌, ◌<◌, ◌≤◌, None, if◌then◌else◌, Ok, Err};
 ghost use Rattle.layout.specs.Frames.{text_in};
 ghost use Rattle.pdu.specs.declared.refusal.Refusal.TheVariants.{UnlawfulFrame};
@@ -41,7 +41,7 @@ fn cut<'a, L: FamilyLayout>(family: &L, record: &'a Record<L::Head>, sequence: u
 }
 
 // Refuses an unlawful frame.
-fn lawful<L: FamilyLayout>(family: &L, frame: Payload) -> Result<(), Refusal>
+fn require_lawful_frame<L: FamilyLayout>(family: &L, frame: Payload) -> Result<(), Refusal>
     ensures { result ≡ (if L.layout.lawful family.now frame then Ok (tt {0}) else Err UnlawfulFrame) }
 {
     if family.accepts(frame) {
@@ -64,15 +64,13 @@ impl<L: FamilyLayout> Family for L {
         L::MODULUS
     }
 
-    fn refusal(&self, record: &Record<L::Head>) -> Option<Refusal> {
-        self.why_refused(record)
+    fn require_lawful(&self, record: &Record<L::Head>) -> Result<(), Refusal> {
+        self.refuse_unlawful(record)
     }
 
     fn frame_count(&self, record: &Record<L::Head>) -> Result<usize, Refusal> {
-        match self.why_refused(record) {
-            Some(refusal) => Err(refusal),
-            None => Ok(L::FRAME_LAYOUT.frame_count(record.text.len)),
-        }
+        self.require_lawful(record)?;
+        Ok(L::FRAME_LAYOUT.frame_count(record.text.len))
     }
 
     fn frame(&self, record: &Record<L::Head>, sequence: u8, i: usize) -> Result<Payload, Refusal> {
@@ -88,17 +86,17 @@ impl<L: FamilyLayout> Family for L {
     }
 
     fn number(&self, frame: Payload) -> Result<usize, Refusal> {
-        lawful(self, frame)?;
+        require_lawful_frame(self, frame)?;
         Ok(self.number_in(frame))
     }
 
     fn sequence(&self, frame: Payload) -> Result<u8, Refusal> {
-        lawful(self, frame)?;
+        require_lawful_frame(self, frame)?;
         Ok(self.sequence_in(frame))
     }
 
     fn last_number(&self, frame: Payload) -> Result<usize, Refusal> {
-        lawful(self, frame)?;
+        require_lawful_frame(self, frame)?;
         if self.number_in(frame) != 0 {
             return Err(Refusal::UnlawfulFrame);
         }
@@ -115,10 +113,8 @@ impl<L: FamilyLayout> Family for L {
             head: self.head_in(first),
             text: text_in(&held, self.length_in(frames)),
         };
-        if self.why_refused(&record).is_some() {
-            return None;
-        }
-        let cut = cut(self, &record, self.sequence_in(first));
-        cut.is(frames).then_some(record)
+        self.require_lawful(&record).ok()?;
+        let expected = cut(self, &record, self.sequence_in(first));
+        expected.has_frames(frames).then_some(record)
     }
 }

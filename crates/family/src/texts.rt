@@ -10,7 +10,7 @@ use crate::text::{Record, Text};
 use pdu::refusal::Refusal;
 
 impl Text {
-    // The text with these bytes; more than 381 are refused. Not TryFrom: an array of any length is lent here as it stands.
+    // The text with these bytes; more than 381 are refused. Not TryFrom: arrays and slices are both lent here, and the bytes are copied.
     pub fn new(bytes: &[u8]) -> Result<Text, Refusal>
         ensures { text_view result ≡ text_taken bytes.now }
     {

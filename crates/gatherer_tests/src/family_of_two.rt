@@ -1,8 +1,6 @@
 // The family of two frames, by its meaning.
 ghost use Rattle.std.specs.Prelude.{◌≡◌};
-ghost use Rattle.family.specs.Texts.{record_view};
-ghost use Rattle.std.specs.Result.{result_err};
-ghost use Rattle.gatherer_tests.specs.Two.{refusal_of_two, is_cut, meaning_of_two};
+ghost use Rattle.gatherer_tests.specs.Two.{is_cut, meaning_of_two};
 ghost use Rattle.gatherer_tests.specs.LawsOfTwo;
 
 use crate::two::{Two, frame_of};
@@ -23,17 +21,22 @@ impl Family for Two {
         Self::MODULUS
     }
 
-    fn refusal(&self, record: &Record<bool>) -> Option<Refusal> {
-        checked(record).err()
+    // A text that is not one byte is refused, and then a byte 0.
+    fn require_lawful(&self, record: &Record<bool>) -> Result<(), Refusal> {
+        match record.text.as_slice() {
+            [0] => Err(Refusal::TextByte),
+            [_] => Ok(()),
+            _ => Err(Refusal::TextLength),
+        }
     }
 
     fn frame_count(&self, record: &Record<bool>) -> Result<usize, Refusal> {
-        checked(record)?;
+        self.require_lawful(record)?;
         Ok(2)
     }
 
     fn frame(&self, record: &Record<bool>, sequence: u8, i: usize) -> Result<Payload, Refusal> {
-        checked(record)?;
+        self.require_lawful(record)?;
         if sequence >= Self::MODULUS || i >= 2 {
             return Err(Refusal::OutOfRange);
         }
@@ -85,17 +88,6 @@ impl Family for Two {
             head: first % 256 == 1,
             text,
         })
-    }
-}
-
-// Refuses a record whose text is not one byte, and then one whose byte is 0.
-fn checked(record: &Record<bool>) -> Result<(), Refusal>
-    ensures { result_err result ≡ refusal_of_two (record_view «record».now) }
-{
-    match record.text.as_slice() {
-        [0] => Err(Refusal::TextByte),
-        [_] => Ok(()),
-        _ => Err(Refusal::TextLength),
     }
 }
 

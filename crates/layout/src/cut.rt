@@ -14,6 +14,7 @@ pub struct Cut<'a> {
     ghost cuttable: { Cuttable layout fields text.now },
 }
 
+// Each asks i < 64, and no type holds it: to the callers the number of a frame is any usize.
 impl<'a> Cut<'a> {
     // The fields before the bytes of frame i.
     fn leading(&self, i: usize) -> u64
@@ -34,6 +35,7 @@ impl<'a> Cut<'a> {
         ensures { result ≡ with_bytes leading self.now.layout.byte_bits self.now.text.now place count }
     {
         let mut packed = leading;
+        // By index: past the text's end the bytes are zero.
         for i in 0..count {
             let byte = self.text.get(place + i).copied().unwrap_or(0);
             packed = packed * (1 << self.layout.byte_bits) + u64::from(byte);
@@ -64,8 +66,8 @@ impl<'a> Cut<'a> {
         self.before_trailing(i) * (1 << self.layout.trailing_bits) + self.fields.trailing
     }
 
-    // Whether these are the frames.
-    pub fn is(&self, frames: &[Payload]) -> bool
+    // Whether the text is cut into these frames.
+    pub fn has_frames(&self, frames: &[Payload]) -> bool
         ensures { result ≡ bytes_eq (cut_of self.now.layout self.now.fields self.now.text.now) frames.now }
     {
         if frames.len() != self.layout.frame_count(self.text.len()) {

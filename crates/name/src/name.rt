@@ -20,7 +20,7 @@ const LONGEST: usize = 56;
 fn spells_name(text: &[u8]) -> bool
     ensures { result ≡ characters text.now }
 {
-    text.iter().all(|byte| 1 <= *byte && *byte <= 127)
+    text.iter().all(|byte| matches!(byte, 1..=127))
 }
 
 impl FamilyLayout for Name {
@@ -47,14 +47,14 @@ impl FamilyLayout for Name {
 
     ghost sound = { sound };
 
-    fn why_refused(&self, record: &Record<()>) -> Option<Refusal> {
-        if record.text.len < 1 || record.text.len > LONGEST {
-            return Some(Refusal::TextLength);
+    fn refuse_unlawful(&self, record: &Record<()>) -> Result<(), Refusal> {
+        if !(1..=LONGEST).contains(&record.text.len) {
+            return Err(Refusal::TextLength);
         }
         if !spells_name(record.text.as_slice()) {
-            return Some(Refusal::TextByte);
+            return Err(Refusal::TextByte);
         }
-        None
+        Ok(())
     }
 
     fn accepts(&self, frame: Payload) -> bool {
@@ -87,7 +87,7 @@ impl FamilyLayout for Name {
     }
 
     fn fields(&self, record: &Record<()>, sequence: u8) -> FrameFields {
-        let last = (Self::FRAME_LAYOUT.frame_count(record.text.len) - 1) as u64;
+        let last = Self::FRAME_LAYOUT.last_number(record.text.len) as u64;
         FrameFields {
             first_leading: last * 8,
             later_leading: last * 8,

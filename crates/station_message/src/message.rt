@@ -15,6 +15,7 @@ use pdu::refusal::Refusal;
 #[derive(Clone, Copy)]
 pub struct StationMessage;
 
+// Plain numbers: others than the lawful ones come here too, from frames and callers, and are refused.
 #[derive(Clone, Copy, PartialEq, Eq, Debug)]
 pub struct MessageHead {
     // 1 for a message that comes before others.
@@ -25,13 +26,13 @@ pub struct MessageHead {
 fn lawful_encoding(encoding: u8) -> bool
     ensures { result ≡ lawful_encoding encoding }
 {
-    encoding == 0 || encoding == 4
+    matches!(encoding, 0 | 4)
 }
 
 fn lawful_length(length: usize) -> bool
     ensures { result ≡ lawful_length length }
 {
-    4 <= length && length <= 190
+    (4..=190).contains(&length)
 }
 
 // The length that frame 0 tells.
@@ -79,14 +80,14 @@ impl FamilyLayout for StationMessage {
 
     ghost sound = { sound };
 
-    fn why_refused(&self, record: &Record<MessageHead>) -> Option<Refusal> {
+    fn refuse_unlawful(&self, record: &Record<MessageHead>) -> Result<(), Refusal> {
         if record.head.priority > 1 || !lawful_encoding(record.head.encoding) {
-            return Some(Refusal::HeadSettingOrPlace);
+            return Err(Refusal::HeadSettingOrPlace);
         }
         if !lawful_length(record.text.len) {
-            return Some(Refusal::TextLength);
+            return Err(Refusal::TextLength);
         }
-        None
+        Ok(())
     }
 
     fn accepts(&self, frame: Payload) -> bool {
@@ -110,7 +111,7 @@ impl FamilyLayout for StationMessage {
     }
 
     fn last_in(&self, frame: Payload) -> usize {
-        Self::FRAME_LAYOUT.frame_count(length_told(frame)) - 1
+        Self::FRAME_LAYOUT.last_number(length_told(frame))
     }
 
     fn head_in(&self, frame: Payload) -> MessageHead {

@@ -32,11 +32,8 @@ impl<F: Family> Place<F> {
         ensures unchanged { (e : Refusal) → result ≡ Err e → self.new ≡ self.old }
         ensures accepted { InEveryHistory F.Family.meaning self.old (λ s h. F.Family.meaning.refusal s (record_view «record») ≡ None → Accepted F.Family.meaning s h (record_view «record») result self.new) }
     {
-        // Not `?`: the record is accepted where there is none.
-        match self.family.refusal(&record) {
-            Some(refusal) => Err(refusal),
-            None => Ok(self.accept(record)),
-        }
+        self.family.require_lawful(&record)?;
+        Ok(self.accept(record))
     }
 
     // Takes the record off air, and keeps it.

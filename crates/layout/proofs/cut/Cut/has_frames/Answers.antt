@@ -7,7 +7,7 @@ use Rattle.std.proofs.lemmas.Iterator.Consumers.{YieldsList-from_enumerate}
 use Rattle.std.proofs.lemmas.Iterator.Search.{all_from_yields_List}
 use Rattle.layout.specs.Frames.{frame_count, frame_of, cut_of}
 use Rattle.layout.proofs.Equality.{apart, all_equal}
-use Rattle.layout.proofs.cut.Cut.is.Goals as goal
+use Rattle.layout.proofs.cut.Cut.has_frames.Goals as goal
 
 pub returns-then-frames-frame_count : goal.returns-then-frames-frame_count
 returns-then-frames-frame_count c =
