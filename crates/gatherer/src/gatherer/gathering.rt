@@ -62,6 +62,7 @@ impl<F: Family> Gatherer<F> {
     {
         let sequence = self.family.sequence(frame)?;
         let number = self.family.number(frame)?;
+        // The state held, against the sequence number offered.
         match (self.sequence, sequence) {
             (Some(held), offered) if held == offered => {}
             _ => {

@@ -27,6 +27,7 @@ impl<F: Family> Gatherer<F> {
 
     // Copies the text of the record shown to the front of the buffer, and gives its length.
     // Refused while none is shown, then where the buffer is too short; the buffer is then as found.
+    // Into the caller's buffer: a device has fixed memory, and goes on with the record shown.
     pub fn copy_text(&self, buffer: &mut [u8]) -> Result<usize, Refusal>
         ensures { InEveryHistory F.Family.meaning self.now (λ s h. TextShown F.Family.meaning s h buffer.old result buffer.new) }
     {

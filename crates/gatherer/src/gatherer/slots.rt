@@ -21,11 +21,13 @@ impl Table {
     }
 
     // The frames in the slots below the count, if all of those are held, and then zeros.
+    // An array that the caller cuts to the count: a device has fixed memory.
     pub(super) fn frames_below(&self, count: usize) -> Option<[Payload; 64]>
         requires { count ≤ 64 }
         ensures { option_map (take count) result ≡ held_below self.now count }
     {
         let mut frames = [0; 64];
+        // Not zip: what is written through an adapter of iter_mut is not known to a proof.
         for (i, slot) in self.slots[..count].iter().enumerate() {
             frames[i] = (*slot)?;
         }
