@@ -1,5 +1,4 @@
 // One message of a PDU: its number, and what its payload says.
-// parse and payload are no From or TryFrom: what the bits of a payload say depends on the message number.
 #![tactic(auto)]
 
 mod bits;

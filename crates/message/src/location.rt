@@ -6,8 +6,8 @@ ghost use Rattle.message.specs.Results.{in_range};
 use crate::bits::{Signed, field_of};
 use pdu::refusal::Refusal;
 
-// 22 bits.
-const UNITS: Signed = Signed { half: 1 << 21 };
+// An angle's field: signed, 22 bits.
+const ANGLE_FIELD: Signed = Signed { half: 1 << 21 };
 
 // An angle in units of 1/8192 degree; north and east are positive.
 #[derive(Clone, Copy)]
@@ -44,7 +44,7 @@ impl Angle {
     fn parse(payload: u64) -> Angle
         ensures { result ≡ angle_of payload }
     {
-        Angle(UNITS.number_of(field_of(payload, 22, 4)))
+        Angle(ANGLE_FIELD.number_of(field_of(payload, 22, 4)))
     }
 }
 
@@ -65,7 +65,7 @@ impl<const LIMIT: u32> Half<LIMIT> {
         ensures value { result ≡ packed_under LIMIT self.now }
         ensures small { result < 2 ^ 26 }
     {
-        UNITS.field_with(self.angle.0) * 16 + u64::from(self.altitude)
+        ANGLE_FIELD.field_with(self.angle.0) * 16 + u64::from(self.altitude)
     }
 
     // Whether the angle is within its limit and the altitude has four bits.
@@ -94,12 +94,18 @@ impl LocationHalf {
     pub(crate) fn payload(self) -> Result<u64, Refusal>
         ensures { result ≡ in_range (half_in_range self) (half_packed self) }
     {
-        if !self.is_in_range() {
-            return Err(Refusal::OutOfRange);
-        }
+        self.is_in_range()
+            .then(|| self.packed())
+            .ok_or(Refusal::OutOfRange)
+    }
+
+    fn packed(self) -> u64
+        requires { half_in_range self ≡ true }
+        ensures { result ≡ half_packed self }
+    {
         match self {
-            LocationHalf::Latitude(half) => Ok((1 << 26) + half.packed()),
-            LocationHalf::Longitude(half) => Ok(half.packed()),
+            LocationHalf::Latitude(half) => (1 << 26) + half.packed(),
+            LocationHalf::Longitude(half) => half.packed(),
         }
     }
 

@@ -6,9 +6,10 @@ ghost use Rattle.message.specs.Results.{in_range};
 use crate::bits::{Signed, field_of};
 use pdu::refusal::Refusal;
 
-// Eight bits, and eleven.
+// A field of seconds: signed, 8 bits.
 const SECONDS: Signed = Signed { half: 128 };
 
+// A field of minutes: signed, 11 bits.
 const MINUTES: Signed = Signed { half: 1024 };
 
 #[derive(Clone, Copy)]
@@ -117,7 +118,7 @@ impl Parameter {
             Parameter::Local(local) => {
                 MINUTES.fits(i32::from(local.offset.0)) && local.schedule < 8
             }
-            Parameter::Unread { index, value: _ } => *index < 64 && *index != 0 && *index != 3,
+            Parameter::Unread { index, .. } => *index < 64 && *index != 0 && *index != 3,
         }
     }
 }

@@ -57,12 +57,22 @@ impl StationId {
     pub(crate) fn payload(self) -> Result<u64, Refusal>
         ensures { result ≡ in_range (station_in_range self) (station_packed self) }
     {
-        if self.country.0 < 1024 && self.reserved < 8 && self.facility < 1 << 19 {
-            let head = u64::from(self.country.0) * 8 + u64::from(self.reserved);
-            Ok(head * (1 << 19) + u64::from(self.facility))
-        } else {
-            Err(Refusal::OutOfRange)
-        }
+        self.is_in_range()
+            .then(|| self.packed())
+            .ok_or(Refusal::OutOfRange)
+    }
+
+    fn packed(self) -> u64
+        ensures { result ≡ station_packed self }
+    {
+        let head = u64::from(self.country.0) * 8 + u64::from(self.reserved);
+        head * (1 << 19) + u64::from(self.facility)
+    }
+
+    fn is_in_range(&self) -> bool
+        ensures { result ≡ station_in_range self.now }
+    {
+        self.country.0 < 1024 && self.reserved < 8 && self.facility < 1 << 19
     }
 }
 
@@ -149,7 +159,8 @@ impl From<CallSignExtension> for u64 {
 
 #[derive(Clone, Copy)]
 pub struct ShortName {
-    // From left to right.
+    // From left to right. A tuple: an array's length inside an enum inside a struct is not known to a
+    // proof.
     pub characters: (Character, Character, Character, Character),
     pub extension: CallSignExtension,
 }
@@ -177,13 +188,18 @@ impl ShortName {
     pub(crate) fn payload(self) -> Result<u64, Refusal>
         ensures { result ≡ in_range (short_name_in_range self) (short_name_packed self) }
     {
-        if !self.is_in_range() {
-            return Err(Refusal::OutOfRange);
-        }
+        self.is_in_range()
+            .then(|| self.packed())
+            .ok_or(Refusal::OutOfRange)
+    }
+
+    fn packed(self) -> u64
+        ensures { result ≡ short_name_packed self }
+    {
         let (Character(a), Character(b), Character(c), Character(d)) = self.characters;
         let left = u64::from(a) * 32 + u64::from(b);
         let four = (left * 32 + u64::from(c)) * 32 + u64::from(d);
-        Ok(four * 4 + u64::from(self.extension))
+        four * 4 + u64::from(self.extension)
     }
 
     // Whether no character has the code 31.

@@ -29,6 +29,7 @@ impl Pdu {
     {
         let mut remainder: u16 = 0;
         // Bits 68 to 79 count as zero, and leading zeros leave no remainder.
+        // i is a power of X, highest first.
         for i in (0..68usize).rev() {
             remainder = DIVISOR.bring_down(remainder, self.coefficient(i));
         }

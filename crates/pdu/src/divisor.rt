@@ -35,6 +35,7 @@ impl Divisor {
         ensures small { result < 2 ^ self.degree }
     {
         let mut remainder = remainder;
+        // k counts the bits of the byte, highest first.
         for k in 0..8u32 {
             remainder = self.bring_down(remainder, (byte >> (7 - k)) % 2);
         }

@@ -9,7 +9,7 @@ use crate::refusal::Refusal;
 pub struct Fields {
     // Whether a second message follows the first.
     pub extension: bool,
-    // The number of the first message.
+    // The number of the first message. A u8: reserved numbers come here too, and Contents refuses them.
     pub number: u8,
     // The 58 bits from the first payload to the leftover bits.
     pub area: u64,
@@ -48,7 +48,7 @@ impl TryFrom<Fields> for Pdu {
 }
 
 impl Fields {
-    // The fields of 80 bits.
+    // The fields of 80 bits. Not From: the type and the check are left out.
     fn of_number(n: u128) -> Fields
         ensures { result ≡ fields_of n }
     {

@@ -32,7 +32,7 @@ impl From<Pdu> for u128 {
 }
 
 impl Pdu {
-    // The PDU that spells a number of 80 bits. Not From: a longer number has no PDU.
+    // The PDU that spells a number of 80 bits. Not TryFrom: every number here has 80 bits.
     pub(crate) fn from_number(n: u128) -> Pdu
         requires { n < 2 ^ 80 }
         ensures { result ≡ record { bytes = bytes_of n } }
