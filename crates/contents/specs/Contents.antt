@@ -1,5 +1,5 @@
 -- What a PDU says: with extension 0 one message, with extension 1 a second number of four bits and its payload behind the first payload; the bits left over before the reserved bit are zero.
-use Rattle.std.specs.Prelude.{ℕ, ◌-◌, Bool, true, false, cond, List, Some, None, Ok, Err, Option, Result, ◌==◌}
+use Rattle.std.specs.Prelude.{◌≡◌, ℕ, ◌-◌, Bool, true, false, cond, List, Some, None, Ok, Err, Option, Result, ◌==◌}
 use Rattle.pdu.specs.declared.refusal.Refusal.{Refusal}
 use Rattle.pdu.specs.declared.refusal.Refusal.TheVariants.{LeftoverBitSet}
 use Rattle.pdu.specs.declared.pdu.Pdu.{Pdu}
@@ -75,6 +75,16 @@ decoded p = and_then (fields_in p) contents_of
 -- The PDU with these contents.
 abbrev pub encoded : Contents → Result Pdu Refusal
 encoded c = and_then (fields_of c) composed
+
+-- The answer to reading the contents of a PDU. Contents that were read make the same PDU again.
+pub record IsDecoded (p : Pdu) (answer : Result Contents Refusal) : Type 0 where
+  pub value : answer ≡ decoded p
+  pub written_again : (c : Contents) → answer ≡ Ok c → encoded c ≡ Ok p
+
+-- The answer to writing contents to a PDU. A PDU that was written has these contents.
+pub record IsEncoded (c : Contents) (answer : Result Pdu Refusal) : Type 0 where
+  pub value : answer ≡ encoded c
+  pub read_again : (p : Pdu) → answer ≡ Ok p → decoded p ≡ Ok c
 
 -- What a slice of bytes says.
 abbrev pub read_from : List ℕ → Result Contents Refusal

@@ -1,39 +1,44 @@
 // Contents read from ten bytes and written to them.
 ghost use Rattle.std.specs.Prelude.{◌≡◌, Ok};
-ghost use Rattle.contents.specs.Contents.{decoded, encoded, read_from, write_answer, buffer_after};
+ghost use Rattle.contents.specs.Contents.{IsDecoded, IsEncoded, encoded, read_from, write_answer, buffer_after};
 
 use crate::contents::Contents;
 use pdu::fields::Fields;
 use pdu::pdu::Pdu;
 use pdu::refusal::Refusal;
 
-// No TryFrom here: the transport has functions of the same names, which take the families too.
-impl Contents {
-    // What a PDU says.
-    pub fn decode(pdu: Pdu) -> Result<Contents, Refusal>
-        ensures value { result ≡ decoded pdu }
-        ensures written_again { (c : Contents) → result ≡ Ok c → encoded c ≡ Ok pdu }
-    {
+// What a PDU says.
+impl TryFrom<Pdu> for Contents {
+    type Error = Refusal;
+
+    ghost try_from_gives = { IsDecoded };
+
+    fn try_from(pdu: Pdu) -> Result<Contents, Refusal> {
         let fields = Fields::try_from(pdu)?;
         Contents::from_fields(fields)
     }
+}
 
-    // The PDU that says this.
-    pub fn encode(self) -> Result<Pdu, Refusal>
-        ensures value { result ≡ encoded self }
-        ensures read_again { (p : Pdu) → result ≡ Ok p → decoded p ≡ Ok self }
-    {
-        let fields = self.fields()?;
+// The PDU with these contents.
+impl TryFrom<Contents> for Pdu {
+    type Error = Refusal;
+
+    ghost try_from_gives = { IsEncoded };
+
+    fn try_from(contents: Contents) -> Result<Pdu, Refusal> {
+        let fields = contents.fields()?;
         Pdu::try_from(fields)
     }
+}
 
+impl Contents {
     // What a slice of bytes says; ten are read.
     pub fn read(bytes: &[u8]) -> Result<Contents, Refusal>
         ensures value { result ≡ read_from bytes.now }
         ensures written_again { (c : Contents) → result ≡ Ok c → encoded c ≡ Ok (record { bytes = bytes.now }) }
     {
         let pdu = Pdu::try_from(bytes)?;
-        Contents::decode(pdu)
+        Contents::try_from(pdu)
     }
 
     // Writes the PDU into a buffer of ten bytes; a refusal leaves the buffer as found.
@@ -43,7 +48,7 @@ impl Contents {
         ensures read_again { result ≡ Ok tt → read_from buffer.new ≡ Ok self }
     {
         Pdu::try_from(&*buffer)?;
-        let pdu = self.encode()?;
+        let pdu = Pdu::try_from(self)?;
         buffer.copy_from_slice(&pdu.bytes);
         Ok(())
     }

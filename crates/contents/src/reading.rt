@@ -51,7 +51,7 @@ impl Contents {
         Contents::with(fields, first, None).if_nothing_left(rest.bits)
     }
 
-    // Behind the first payload stand the second message's number and its payload.
+    // Two messages: behind the first payload stand the second's number and payload.
     fn two_messages(fields: Fields, payload: u64, rest: Area) -> Result<Contents, Refusal>
         requires { 4 ≤ rest.width }
         ensures { let room = rest.width - 4 in let number = upper room rest.bits in

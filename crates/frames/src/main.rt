@@ -13,6 +13,7 @@ use hexadecimal::printed::Digits;
 use message::message::Message;
 use message::place::Place;
 use name::name::Name;
+use pdu::pdu::Pdu;
 use pdu::refusal::Refusal;
 use station_message::message::{MessageHead, StationMessage};
 use std::env;
@@ -113,7 +114,7 @@ fn print_pdu(rt: &HostRuntime, place: Place, frame: u64) -> anyhow::Result<()> {
         time_locked: false,
         pair: 0,
     };
-    let pdu = accepted(rt, contents.encode())?;
+    let pdu = accepted(rt, Pdu::try_from(contents))?;
     let digits = Digits(&pdu.bytes);
     println!(rt; "{digits}")?;
     Ok(())

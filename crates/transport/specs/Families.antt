@@ -32,8 +32,8 @@ abbrev pub lawful_in : {N T M U E V : Type 0} → Families N T M U E V → Place
 lawful_in f = lawful_at (f.name.meaning.lawful f.name.setting) (f.message.meaning.lawful f.message.setting) (f.alert.meaning.lawful f.alert.setting)
 
 -- The same of families that are lent together, by what each means.
-abbrev pub lawful_to : {N T M U A V : Type 0} → Meaning N T → Meaning M U → Meaning A V → Lent N M A → Place → ℕ → Bool
-lawful_to nm mm am f = lawful_at (nm.lawful f.name.now) (mm.lawful f.message.now) (am.lawful f.alert.now)
+abbrev pub lawful_to : {N T M U E V : Type 0} → Meaning N T → Meaning M U → Meaning E V → Lent N M E → Place → ℕ → Bool
+lawful_to nm mm em f = lawful_at (nm.lawful f.name.now) (mm.lawful f.message.now) (em.lawful f.alert.now)
 
 -- A place of a station with heads of the sort R: which one it is, its family, and the heads that are its own.
 pub record PlaceOf (S T R : Type 0) : Type 0 where

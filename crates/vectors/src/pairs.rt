@@ -54,7 +54,7 @@ fn answer(first: u8, second: u8) -> u8 {
     let Ok(pdu) = Pdu::try_from(fields) else {
         return 255;
     };
-    number_of(Contents::decode(pdu))
+    number_of(Contents::try_from(pdu))
 }
 
 #[test]

@@ -123,7 +123,7 @@ impl<N: Family, M: Family, E: Family> Exercise<N, M, E> {
 
     // The text shown at the place of the PDU's frame.
     fn shown(&self, passage: Passage, drawn: u32) -> Option<Entry> {
-        let contents = Contents::decode(passage.pdu).ok()?;
+        let contents = Contents::try_from(passage.pdu).ok()?;
         let Message::Frame(place, _) = contents.first else {
             return None;
         };

@@ -3,7 +3,7 @@ use Rattle.pdu.specs.Fields.{composed}
 use Rattle.message.proofs.Ranges.{then_ok}
 use Rattle.contents.specs.Contents.{fields_of}
 use Rattle.contents.proofs.Trips.{fields_again}
-use Rattle.contents.proofs.contents.Contents.decode.Goals as goal
+use Rattle.contents.proofs.codec.ContentsTryFromPdu.try_from.Goals as goal
 
 pub returns : goal.returns
 returns c =

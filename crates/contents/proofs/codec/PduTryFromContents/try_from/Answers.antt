@@ -2,7 +2,7 @@ use Rattle.std.proofs.Common.{◌∙◌, rules}
 use Rattle.pdu.specs.Fields.{parsed as fields_in}
 use Rattle.message.proofs.Ranges.{then_ok}
 use Rattle.contents.specs.Contents.{contents_of}
-use Rattle.contents.proofs.contents.Contents.encode.Goals as goal
+use Rattle.contents.proofs.codec.PduTryFromContents.try_from.Goals as goal
 
 pub returns : goal.returns
 returns c =

@@ -6,4 +6,4 @@ pub returns : goal.returns
 returns c =
     let p = c.in_ok-pdu.pdu in
     let same = taken_is c.args.bytes.now p c.in_ok-pdu.ensures in
-    record { value = search rules; written_again = λ d e. c.decode.ensures.written_again d e ∙ ap Ok same }
+    record { value = search rules; written_again = λ d e. c.try_from-2.ensures.written_again d e ∙ ap Ok same }
