@@ -39,7 +39,7 @@ pub record Linked {N T M U E V : Type 0} (f : Families N T M U E V) (st : Statio
   pub pdu_is : l.pdu ≡ pdu_last_drawn f st (card_calls a)
   pub read_again : (p : Pdu) → l.pdu ≡ Some p → (c : Contents) × (contents_last_drawn f st (card_calls a) ≡ Some c) × (read_with (lawful_in f) p.bytes ≡ Ok c)
 
--- What holds of a link whatever its families, its station and its run were, as long as it is what they lead to.
+-- What holds of a link whatever its families, its station and its run were, as long as it is what they lead to. A run is no part of a link, so a contract speaks of every run that leads to it.
 abbrev pub InEveryHistory : {N T M U E V : Type 0} → Meaning N T → Meaning M U → Meaning E V → Link N M E T U V → (Families N T M U E V → Station → List (Step (Head T U V)) → Type 0) → Type 0
 InEveryHistory {N} {T} {M} {U} {E} {V} nm mm em l P = (n : N) (m : M) (e : E) (st : Station) (a : List (Step (Head T U V))) → Linked (families nm n mm m em e) st a l → P (families nm n mm m em e) st a
 

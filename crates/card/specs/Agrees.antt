@@ -39,7 +39,7 @@ pub record Agrees {N T M U E V : Type 0} (f : Families N T M U E V) (st : Statio
   pub message_agrees : PlaceAgrees (message_place f) h c.message
   pub alert_agrees : PlaceAgrees (alert_place f) h c.alert
 
--- What holds of a card whatever its families, its station and its calls were, as long as it agrees with them.
+-- What holds of a card whatever its families, its station and its calls were, as long as it agrees with them. The calls are no part of a card, so a contract speaks of every list of calls that agrees with it.
 abbrev pub InEveryHistory : {N T M U E V : Type 0} → Meaning N T → Meaning M U → Meaning E V → Card N M E T U V → (Families N T M U E V → Station → List (Call (Head T U V)) → Type 0) → Type 0
 InEveryHistory {N} {T} {M} {U} {E} {V} nm mm em c P = (n : N) (m : M) (e : E) (st : Station) (h : List (Call (Head T U V))) → Agrees (families nm n mm m em e) st h c → P (families nm n mm m em e) st h
 

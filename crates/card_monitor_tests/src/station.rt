@@ -74,7 +74,8 @@ pub(crate) fn drawn(card: &mut StationCard) -> Result<[u8; 10], Refusal> {
     Ok(buffer)
 }
 
-// The number of the answer to an offer, or of its refusal.
+// The number of the answer to an offer, or of its refusal. The numbers are what programs see; the
+// tests pin them.
 pub(crate) fn offered(monitor: &mut StationMonitor, bytes: &[u8]) -> u8 {
     monitor.offer(bytes).map_or_else(u8::from, answer_number)
 }

@@ -24,9 +24,10 @@ pub enum Message {
     Universal(u64),
 }
 
-// parse and payload, here and of each kind, are no TryFrom: what the bits say depends on the number.
+// parse and payload, also of each kind, are no TryFrom: what bits say depends on the number.
 impl Message {
-    // The message with this number and payload. A u8: reserved numbers come here too, and are refused.
+    // The message with this number and payload. A u8: reserved numbers come here too, and are
+    // refused.
     pub fn parse(number: u8, payload: u64) -> Result<Message, Refusal>
         ensures value { result ≡ parsed number payload }
         ensures written_again { (m : Message) → result ≡ Ok m → (number_of m ≡ number) × (payload_of m ≡ Ok payload) }

@@ -22,7 +22,7 @@ const SIZES: [Option<u8>; 16] = [
     None,
 ];
 
-// The size in bits of the payload of a message. A u8: reserved numbers come here too, and have none.
+// The size in bits of a message's payload. A u8: reserved numbers come here too, and have none.
 pub fn payload_size(number: u8) -> Option<u8>
     ensures { result ≡ size_of number }
 {

@@ -159,8 +159,8 @@ impl From<CallSignExtension> for u64 {
 
 #[derive(Clone, Copy)]
 pub struct ShortName {
-    // From left to right. A tuple: an array's length inside an enum inside a struct is not known to a
-    // proof.
+    // From left to right. A tuple: an array's length inside an enum inside a struct is not known
+    // to a proof.
     pub characters: (Character, Character, Character, Character),
     pub extension: CallSignExtension,
 }

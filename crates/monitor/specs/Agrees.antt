@@ -28,7 +28,7 @@ Agrees f h w = Holds f (hearings (lawful_in f) h) w
 abbrev pub families_of : {N T M U E V : Type 0} → Meaning N T → Meaning M U → Meaning E V → Monitor N M E T U V → Families N T M U E V
 families_of nm mm em w = families nm w.name.family mm w.message.family em w.alert.family
 
--- What holds of a monitor whatever its families and its calls were, as long as it agrees with them.
+-- What holds of a monitor whatever its families and its calls were, as long as it agrees with them. The calls are no part of a monitor, so a contract speaks of every list of calls that agrees with it.
 abbrev pub InEveryHistory : {N T M U E V : Type 0} → Meaning N T → Meaning M U → Meaning E V → Monitor N M E T U V → (Families N T M U E V → List Call → Type 0) → Type 0
 InEveryHistory {N} {T} {M} {U} {E} {V} nm mm em w P = (n : N) (m : M) (e : E) (h : List Call) → Agrees (families nm n mm m em e) h w → P (families nm n mm m em e) h
 

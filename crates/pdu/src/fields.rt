@@ -9,7 +9,7 @@ use crate::refusal::Refusal;
 pub struct Fields {
     // Whether a second message follows the first.
     pub extension: bool,
-    // The number of the first message. A u8: reserved numbers come here too, and Contents refuses them.
+    // The number of the first message. A u8: reserved numbers stand here too.
     pub number: u8,
     // The 58 bits from the first payload to the leftover bits.
     pub area: u64,

@@ -20,7 +20,7 @@ pub record Linked {S T : Type 0} (m : Meaning S T) (s : S) (a : List (Step T)) (
   pub card_agrees : Card.Agrees m s (card_calls a) p
   pub monitor_agrees : Monitor.Agrees m s (monitor_events a) g
 
--- What holds of the two places whatever run led to them.
+-- What holds of the two places whatever run led to them. A run is no part of them, so a contract speaks of every run that leads to them.
 abbrev pub InEveryHistory : {S T : Type 0} → Meaning S T → Place S T → Gatherer S T → (S → List (Step T) → Type 0) → Type 0
 InEveryHistory {S} {T} m p g P = (s : S) (a : List (Step T)) → Linked m s a p g → P s a
 

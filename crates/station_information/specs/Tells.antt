@@ -23,6 +23,7 @@ pub record Tells (h : List Hearing) (k : StationInformation) : Type 0 where
   pub programs_are : (n : ℕ) → n < 64 → audio_at n k.programs ≡ latest (program_in n) h
 
 -- What holds of what is kept whatever was heard, as long as it tells that.
+-- What was heard is no part of the value, so a contract speaks of every list of hearings that it tells.
 abbrev pub InEveryHistory : StationInformation → (List Hearing → Type 0) → Type 0
 InEveryHistory k P = (h : List Hearing) → Tells h k → P h
 

@@ -7,7 +7,7 @@ use message::parameter::{LeapSeconds, LocalTime};
 use message::service::AudioService;
 use message::station::{ShortName, StationId};
 
-// An entry of the table of programs.
+// An entry of the table of programs. A struct, since more may be told of a program.
 #[derive(Clone, Copy)]
 struct Program {
     audio: Option<AudioService>,

@@ -64,8 +64,8 @@ impl<'a, N: Family, M: Family, E: Family> Families<'a, N, M, E> {
         }
     }
 
-    // Writes the PDU into a buffer of ten bytes; a refusal leaves the buffer as found. The steps are
-    // those of Contents::write, but for the encoding, which refuses an unlawful frame too.
+    // Writes the PDU into a buffer of ten bytes; a refusal leaves the buffer as found. The
+    // steps are those of Contents::write, but encode refuses an unlawful frame too.
     pub fn write(self, contents: Contents, buffer: &mut [u8]) -> Result<(), Refusal>
         ensures value { result ≡ write_answer_with (lawful_to N.Family.meaning M.Family.meaning E.Family.meaning self.entry) contents buffer.old }
         ensures after { buffer.new ≡ buffer_after_with (lawful_to N.Family.meaning M.Family.meaning E.Family.meaning self.entry) contents buffer.old }

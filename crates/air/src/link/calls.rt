@@ -1,4 +1,5 @@
-// The calls of both ends.
+// The calls of both ends. A place is named by its message number, not as a Place, since a number
+// that is no place's is refused too.
 ghost use Rattle.std.specs.Prelude.{◌≡◌, [], ◌∷◌, Err};
 ghost use Rattle.pdu.specs.declared.refusal.Refusal.{Refusal};
 ghost use Rattle.family.specs.Texts.{record_view};

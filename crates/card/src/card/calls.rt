@@ -1,5 +1,5 @@
 // The calls of a card. A place is named by its message number, not as a Place, since a number that
-// is no place's is refused too.
+// is no place's is refused too. The places are of three types, so each such call has its own match.
 ghost use Rattle.std.specs.Prelude.{◌≡◌, ◌∷◌, length, Ok, Err, ◌≢◌};
 ghost use Rattle.pdu.specs.declared.refusal.Refusal.{Refusal};
 ghost use Rattle.pdu.specs.declared.refusal.Refusal.TheVariants.{NotTenBytes};

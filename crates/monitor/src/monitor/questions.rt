@@ -1,6 +1,6 @@
 // The questions, which alter nothing. A place is named by its message number, not as a Place, since
-// a number that is no place's is refused too. The questions that go by the place call methods of
-// three types with three types of head, so each has its own match.
+// a number that is no place's is refused too. The places are of three types with three types of
+// head, so each question has its own match.
 ghost use Rattle.std.specs.Prelude.{◌≡◌};
 ghost use Rattle.transport.specs.Families.{lawful_in};
 ghost use Rattle.station_information.specs.Tells.{Tells};

@@ -75,6 +75,7 @@ impl StationInformation {
         ensures { Updated (Message.Service (Service.Audio audio)) self.old self.new }
     {
         let number = usize::from(audio.program);
+        // By index: with get_mut the proof of the table after the loan did not close.
         if number < 64 {
             self.programs[number] = Program { audio: Some(audio) };
         }
@@ -88,7 +89,7 @@ impl StationInformation {
         match parameter {
             Parameter::Leap(leap) => self.leap_seconds = Some(leap),
             Parameter::Local(local) => self.local_time = Some(local),
-            Parameter::Unread { index: _, value: _ } => {}
+            Parameter::Unread { .. } => {}
         }
     }
 }
