@@ -20,24 +20,18 @@ impl fmt::Display for Digits<'_> {
     }
 }
 
-// In quotes: printable ASCII as it is, any other byte as \x and two digits; where it is asked for, so too quotation marks and backslashes.
+// In quotes: printable ASCII as it is, any other byte as \x and two digits; quotation marks and backslashes so too, if ESCAPE_MARKS is set.
 #[derive(Clone, Copy)]
-pub struct Quoted<'a> {
-    pub bytes: &'a [u8],
-    pub escape_marks: bool,
-}
+pub struct Quoted<'a, const ESCAPE_MARKS: bool>(pub &'a [u8]);
 
-impl fmt::Display for Quoted<'_> {
-    ghost output = { λ q. Some (quoted q.escape_marks q.bytes.now) };
+impl<const ESCAPE_MARKS: bool> fmt::Display for Quoted<'_, ESCAPE_MARKS> {
+    ghost output = { λ q. Some (quoted ESCAPE_MARKS q.0.now) };
 
     fn fmt<W: fmt::Write>(&self, f: &mut fmt::Formatter<W>) -> fmt::Result {
         write!(f, "\"")?;
-        for byte in self.bytes {
-            let shown = Shown {
-                byte: *byte,
-                escape_marks: self.escape_marks,
-            };
-            write!(f, "{shown}")?;
+        for byte in self.0 {
+            let byte = QuotedByte::<ESCAPE_MARKS>(*byte);
+            write!(f, "{byte}")?;
         }
         write!(f, "\"")
     }
@@ -45,30 +39,27 @@ impl fmt::Display for Quoted<'_> {
 
 // One byte between the quotes.
 #[derive(Clone, Copy)]
-struct Shown {
-    byte: u8,
-    escape_marks: bool,
-}
+struct QuotedByte<const ESCAPE_MARKS: bool>(u8);
 
-impl Shown {
+impl<const ESCAPE_MARKS: bool> QuotedByte<ESCAPE_MARKS> {
     // Whether the byte stands as it is.
-    fn is_plain(self) -> bool
-        ensures { result ≡ is_plain self.escape_marks self.byte }
+    fn is_plain(&self) -> bool
+        ensures { result ≡ is_plain ESCAPE_MARKS self.now.0 }
     {
-        let mark = self.byte == b'"' || self.byte == b'\\';
-        (32 <= self.byte && self.byte < 127) && !(self.escape_marks && mark)
+        let mark = self.0 == b'"' || self.0 == b'\\';
+        (32 <= self.0 && self.0 < 127) && !(ESCAPE_MARKS && mark)
     }
 }
 
-impl fmt::Display for Shown {
-    ghost output = { λ s. Some (shown s.escape_marks s.byte) };
+impl<const ESCAPE_MARKS: bool> fmt::Display for QuotedByte<ESCAPE_MARKS> {
+    ghost output = { λ s. Some (shown ESCAPE_MARKS s.0) };
 
     fn fmt<W: fmt::Write>(&self, f: &mut fmt::Formatter<W>) -> fmt::Result {
         if self.is_plain() {
-            let character = char::from(self.byte);
+            let character = char::from(self.0);
             write!(f, "{character}")
         } else {
-            let byte = [self.byte];
+            let byte = [self.0];
             let digits = Digits(&byte);
             write!(f, "\\x{digits}")
         }

@@ -1,4 +1,4 @@
-// That memory does not run out, and the words of each refusal.
+// Texts read, bytes printed, and the words of each error.
 use crate::printed::Digits;
 use crate::text::{TextError, bytes_of};
 use std::test::Fail;

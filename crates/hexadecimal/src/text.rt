@@ -6,35 +6,22 @@ ghost use Rattle.hexadecimal.specs.declared.text.TextError.TheVariants.{OutOfMem
 
 use crate::{Reading, read_character};
 use std::alloc::{AllocError, AllocFailed, Global};
-use std::error::Error;
-use std::fmt;
+use thiserror::Error;
 
 // Why a text spells no bytes.
-#[derive(Clone, Copy, PartialEq, Eq, Debug)]
+#[derive(Clone, Copy, PartialEq, Eq, Debug, Error)]
 pub enum TextError {
     // The column counts characters from 1.
+    #[error("'{found}' in column {column} is no hexadecimal digit")]
     NoDigit { column: usize, found: char },
-    // So many digits do not make whole bytes.
+    // An odd number of digits: so many.
+    #[error("{0} hexadecimal digits do not make whole bytes")]
     OddDigits(usize),
+    #[error("{}", AllocError)]
     OutOfMemory,
 }
 
-impl fmt::Display for TextError {
-    fn fmt<W: fmt::Write>(&self, f: &mut fmt::Formatter<W>) -> fmt::Result {
-        match self {
-            TextError::NoDigit { column, found } => {
-                write!(f, "'{found}' in column {column} is no hexadecimal digit")
-            }
-            TextError::OddDigits(count) => {
-                write!(f, "{count} hexadecimal digits do not make whole bytes")
-            }
-            TextError::OutOfMemory => write!(f, "{AllocError}"),
-        }
-    }
-}
-
-impl Error for TextError {}
-
+// By hand: clauses name the error.
 impl<T: Drop> From<AllocFailed<T>> for TextError {
     ghost from_gives = { λ _ e. e ≡ OutOfMemory };
 
