@@ -12,8 +12,8 @@ use std::env;
 use transport::families::Families;
 use words::Described;
 
-// The check of alerts divides by X^7 plus this.
-const GENERATOR: u8 = 9;
+// Alerts whose check divides by X^7 + X^3 + 1.
+const ALERTS: Alert = Alert { generator: 9 };
 
 const USAGE: &str = "usage: decode < FILE
 Each line of standard input is one PDU: twenty hexadecimal digits, blanks allowed.
@@ -34,24 +34,21 @@ fn run(rt: &HostRuntime) -> anyhow::Result<()> {
         eprintln!(rt; "decode: no argument is taken, but '{word}' was given\n{USAGE}")?;
         bail!("bad arguments");
     }
-    let Ok(alerts) = Alert::new(GENERATOR) else {
-        bail!("the alert generator is not allowed");
-    };
     for (i, line) in rt.lines(rt.alloc()).enumerate() {
         let line = line?;
         if !line.trim().is_empty() {
-            say(rt, &alerts, i.saturating_add(1), line.as_str())?;
+            say(rt, i.saturating_add(1), line.as_str())?;
         }
     }
     Ok(())
 }
 
 // Says what one line says, or what is wrong with it.
-fn say(rt: &HostRuntime, alerts: &Alert, number: usize, line: &str) -> anyhow::Result<()> {
+fn say(rt: &HostRuntime, number: usize, line: &str) -> anyhow::Result<()> {
     let families = Families {
         name: &Name,
         message: &StationMessage,
-        alert: alerts,
+        alert: &ALERTS,
     };
     match bytes_of(rt.alloc(), line) {
         Err(TextError::OutOfMemory) => return Err(TextError::OutOfMemory.into()),
@@ -60,7 +57,7 @@ fn say(rt: &HostRuntime, alerts: &Alert, number: usize, line: &str) -> anyhow::R
             Ok(contents) => {
                 let described = Described {
                     contents,
-                    alerts: *alerts,
+                    alerts: ALERTS,
                 };
                 println!(rt; "{number}: {described}")?
             }

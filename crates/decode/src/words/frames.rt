@@ -1,7 +1,10 @@
 // A frame of a name, a message or an alert.
 use alert::alert::Alert;
 use family::family::Family;
+use family::family_layout::FamilyLayout;
 use hexadecimal::printed::Quoted;
+use layout::layout::Payload;
+use layout::text_frames::TextFrames;
 use message::place::Place;
 use name::name::Name;
 use pdu::refusal::Refusal;
@@ -11,7 +14,7 @@ use std::fmt;
 #[derive(Clone, Copy)]
 pub(crate) struct FrameWords {
     pub place: Place,
-    pub payload: u64,
+    pub payload: Payload,
     // The family of the station's alerts.
     pub alerts: Alert,
 }
@@ -21,61 +24,77 @@ impl fmt::Display for FrameWords {
         let payload = self.payload;
         match self.place {
             Place::Name => {
-                let numbers = Numbers::of(&Name, payload);
-                write!(f, "name, {numbers}: ")?;
-                let letters = [45, 38, 31, 24, 17, 10, 3].map(|bits| letter(payload, bits));
-                write!(f, "{}", quoted(&letters))
+                write!(f, "name, {}", Numbers::of(&Name, payload))?;
+                write_bytes(&Name, payload, f)
             }
             Place::Message => {
-                let numbers = Numbers::of(&StationMessage, payload);
-                write!(f, "message, {numbers}")?;
-                self.message(f)
+                write!(f, "message, {}", Numbers::of(&StationMessage, payload))?;
+                if StationMessage.number_in(payload) == 0 {
+                    message_fields(payload, f)?;
+                }
+                write_bytes(&StationMessage, payload, f)
             }
             Place::Alert => {
-                let numbers = Numbers::of(&self.alerts, payload);
-                write!(f, "alert, {numbers}")?;
-                self.alert(f)
+                write!(f, "alert, {}", Numbers::of(&self.alerts, payload))?;
+                if self.alerts.number_in(payload) == 0 {
+                    alert_fields(&self.alerts, payload, f)?;
+                }
+                write_bytes(&self.alerts, payload, f)
             }
         }
     }
 }
 
-impl FrameWords {
-    // The head and the bytes of a message's frame: frame 0 begins with number 0 in five bits.
-    fn message<W: fmt::Write>(&self, f: &mut fmt::Formatter<W>) -> fmt::Result {
-        let payload = self.payload;
-        let bytes = payload.to_be_bytes();
-        if (payload >> 53) % 32 != 0 {
-            return write!(f, ": {}", quoted(&bytes[2..]));
-        }
-        let priority = (payload >> 50) % 2;
-        let encoding = (payload >> 47) % 8;
-        let length = (payload >> 39) % 256;
-        let checksum = (payload >> 32) % 128;
-        write!(
-            f,
-            ", priority {priority}, encoding {encoding}, length {length}, checksum {checksum}: "
-        )?;
-        write!(f, "{}", quoted(&bytes[4..]))
-    }
+// What frame 0 of a message tells of its text. No call gives the checksum of a frame: hence the shift.
+fn message_fields<W: fmt::Write>(payload: Payload, f: &mut fmt::Formatter<W>) -> fmt::Result {
+    let head = StationMessage.head_in(payload);
+    let priority = head.priority;
+    let encoding = head.encoding;
+    let length = StationMessage.length_in(&[payload]);
+    let checksum = (payload >> 32) % 128;
+    write!(
+        f,
+        ", priority {priority}, encoding {encoding}, length {length}, checksum {checksum}"
+    )
+}
 
-    // The head and the bytes of an alert's frame: frame 0 begins with number 0 in six bits.
-    fn alert<W: fmt::Write>(&self, f: &mut fmt::Formatter<W>) -> fmt::Result {
-        let payload = self.payload;
-        let bytes = payload.to_be_bytes();
-        if (payload >> 52) % 64 != 0 {
-            return write!(f, ": {}", quoted(&bytes[2..]));
-        }
-        let encoding = (payload >> 45) % 8;
-        let length = (payload >> 36) % 512;
-        let check = (payload >> 29) % 128;
-        let control = (payload >> 24) % 32;
-        write!(
-            f,
-            ", encoding {encoding}, length {length}, check {check}, control length {control}: "
-        )?;
-        write!(f, "{}", quoted(&bytes[5..]))
-    }
+// What frame 0 of an alert tells of its text. No call gives the check of a frame: hence the shift.
+fn alert_fields<W: fmt::Write>(
+    alerts: &Alert,
+    payload: Payload,
+    f: &mut fmt::Formatter<W>,
+) -> fmt::Result {
+    let head = alerts.head_in(payload);
+    let encoding = head.encoding;
+    let control = head.control_length;
+    let length = alerts.length_in(&[payload]);
+    let check = (payload >> 29) % 128;
+    write!(
+        f,
+        ", encoding {encoding}, length {length}, check {check}, control length {control}"
+    )
+}
+
+// The bytes of the text that a frame holds.
+fn write_bytes<L: FamilyLayout, W: fmt::Write>(
+    family: &L,
+    payload: Payload,
+    f: &mut fmt::Formatter<W>,
+) -> fmt::Result {
+    let layout = L::FRAME_LAYOUT;
+    // The frame as frame 0, and as frame 1, which is laid out as every later one.
+    let frames = TextFrames {
+        layout,
+        frames: &[payload, payload],
+    };
+    let mut bytes = [0; 14];
+    frames.read_text(&mut bytes);
+    let held = if family.number_in(payload) == 0 {
+        &bytes[0..layout.first_bytes]
+    } else {
+        &bytes[layout.first_bytes..layout.first_bytes + layout.later_bytes]
+    };
+    write!(f, ": {}", Quoted::<true>(held))
 }
 
 // The numbers that a frame's family tells of it.
@@ -87,7 +106,7 @@ struct Numbers {
 }
 
 impl Numbers {
-    fn of<F: Family>(family: &F, frame: u64) -> Numbers {
+    fn of<F: Family>(family: &F, frame: Payload) -> Numbers {
         Numbers {
             number: family.number(frame),
             last: family.last_number(frame),
@@ -109,17 +128,5 @@ impl fmt::Display for Numbers {
             write!(f, ", sequence number {sequence}")?;
         }
         Ok(())
-    }
-}
-
-// Seven bits, behind which so many follow.
-fn letter(payload: u64, bits: u32) -> u8 {
-    (payload.checked_shr(bits).unwrap_or(0) % 128) as u8
-}
-
-fn quoted(bytes: &[u8]) -> Quoted<'_> {
-    Quoted {
-        bytes,
-        escape_marks: true,
     }
 }
