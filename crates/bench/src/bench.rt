@@ -16,13 +16,16 @@ pub struct Bench<N: Family, M: Family, E: Family> {
     tally: Tally,
 }
 
+// The monitor's answer to one copy of a PDU, if a copy came.
+pub type CopyAnswer = Option<Result<Option<Answer>, Refusal>>;
+
 // What became of one PDU: as it was drawn, and the monitor's answers to its copies.
 #[derive(Clone, Copy)]
 pub struct Passage {
     pub pdu: Pdu,
     pub fade: Fade,
-    pub first: Option<Result<Option<Answer>, Refusal>>,
-    pub second: Option<Result<Option<Answer>, Refusal>>,
+    pub first: CopyAnswer,
+    pub second: CopyAnswer,
 }
 
 // Whether a run is one that the promise on shown texts speaks of.

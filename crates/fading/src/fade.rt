@@ -21,6 +21,7 @@ pub fn with_bit_turned(pdu: Pdu, bit: u8) -> Pdu
 {
     let mut bytes = pdu.bytes;
     let i = usize::from(bit / 8);
+    // Not get_mut: its contract does not tell what the array is after it.
     if i < bytes.len() {
         bytes[i] ^= 128 >> (bit % 8);
     }

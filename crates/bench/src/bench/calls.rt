@@ -10,7 +10,7 @@ ghost use Rattle.air.specs.Linked.{InEveryHistory as InEveryLink};
 ghost use Rattle.bench.specs.Counts.{changes_after, tally_after_store, tally_after_pdu, turned_counted, nothing_counted};
 ghost use Rattle.bench.specs.Ran.{Ran, InEveryHistory, Opened, StoredSo, SentSo, PassedSo};
 
-use crate::bench::{Bench, Passage};
+use crate::bench::{Bench, CopyAnswer, Passage};
 use crate::tally::{Changes, Tally};
 use air::link::Link;
 use airing::stored::Stored;
@@ -19,7 +19,6 @@ use card::station::Station;
 use fading::fade::{Fade, with_bit_turned};
 use family::family::Family;
 use family::text::Record;
-use gatherer::answer::Answer;
 use message::place::Place;
 use monitor::monitor::Monitor;
 use pdu::pdu::Pdu;
@@ -50,7 +49,7 @@ impl<N: Family, M: Family, E: Family> Bench<N, M, E> {
         }
     }
 
-    // Stores a record at the card, and counts a change. A refusal leaves everything as found.
+    // Stores a record at the card, and counts a change. A refusal leaves everything as found. A place is named by its message number, not as a Place, since a number that is no place's is refused too.
     pub fn store(
         &mut self,
         number: u8,
@@ -82,14 +81,7 @@ impl<N: Family, M: Family, E: Family> Bench<N, M, E> {
     }
 
     // Has the monitor hear what a fade leaves of the PDU drawn last.
-    fn send(
-        &mut self,
-        pdu: Pdu,
-        fade: Fade,
-    ) -> (
-        Option<Result<Option<Answer>, Refusal>>,
-        Option<Result<Option<Answer>, Refusal>>,
-    )
+    fn send(&mut self, pdu: Pdu, fade: Fade) -> (CopyAnswer, CopyAnswer)
         ensures sent { InEveryLink N.Family.meaning M.Family.meaning E.Family.meaning self.old.link (λ f st a. self.old.link.pdu ≡ Some pdu → SentSo f st a pdu.bytes fade result.0 result.1 self.new.link) }
         ensures tally { self.new.tally ≡ self.old.tally }
     {
@@ -111,7 +103,7 @@ impl<N: Family, M: Family, E: Family> Bench<N, M, E> {
 
 impl Tally {
     // Counts a PDU with its fade, and a turned one that was accepted.
-    fn count(&mut self, fade: Fade, first: Option<Result<Option<Answer>, Refusal>>)
+    fn count(&mut self, fade: Fade, first: CopyAnswer)
         ensures { self.new ≡ tally_after_pdu fade first self.old }
     {
         self.drawn = self.drawn.saturating_add(1);
@@ -123,7 +115,7 @@ impl Tally {
         }
     }
 
-    fn count_turned(&mut self, first: Option<Result<Option<Answer>, Refusal>>)
+    fn count_turned(&mut self, first: CopyAnswer)
         ensures { self.new ≡ turned_counted first self.old }
     {
         self.turned = self.turned.saturating_add(1);
