@@ -9,7 +9,7 @@ use family::text::{Record, Text};
 use message::place::Place;
 use pdu::refusal::Refusal;
 
-// A bench with the box between its ends, and what was told of it so far.
+// A bench with the fading box between its ends, and what was told of it so far.
 #[derive(Drop)]
 pub struct Exercise<N: Family, M: Family, E: Family> {
     pub bench: Bench<N, M, E>,

@@ -9,14 +9,14 @@ ghost use Rattle.course.specs.Exercise.{WentOn, drawn_times, texts_stored, messa
 
 use crate::exercise::{Entry, Exercise, Texts};
 use crate::shown::shown_text;
-use bench::bench::Passage;
+use bench::bench::CopyAnswer;
 use contents::contents::Contents;
 use family::family::Family;
-use family::text::{Record, Text};
+use family::text::Record;
 use gatherer::answer::Answer;
 use message::message::Message;
 use message::place::Place;
-use pdu::refusal::Refusal;
+use pdu::pdu::Pdu;
 use std::alloc::AllocError;
 use transport::head::Head;
 
@@ -39,11 +39,20 @@ impl<N: Family, M: Family, E: Family> Exercise<N, M, E> {
     fn store_texts(&mut self, texts: Texts<N::Head, M::Head, E::Head>) -> Result<(), AllocError>
         ensures { InEveryHistory N.Family.meaning M.Family.meaning E.Family.meaning self.old.bench (λ f st a. WentOn f st (texts_stored texts (card_calls a)) result self.new.bench) }
     {
-        let name = placed(Head::Name(texts.name.head), texts.name.text);
+        let name = Record {
+            head: Head::Name(texts.name.head),
+            text: texts.name.text,
+        };
         self.store_one(Place::Name, name)?;
-        let message = placed(Head::Message(texts.message.head), texts.message.text);
+        let message = Record {
+            head: Head::Message(texts.message.head),
+            text: texts.message.text,
+        };
         self.store_one(Place::Message, message)?;
-        let alert = placed(Head::Alert(texts.alert.head), texts.alert.text);
+        let alert = Record {
+            head: Head::Alert(texts.alert.head),
+            text: texts.alert.text,
+        };
         self.store_one(Place::Alert, alert)
     }
 
@@ -51,9 +60,15 @@ impl<N: Family, M: Family, E: Family> Exercise<N, M, E> {
     fn change_message(&mut self, texts: Texts<N::Head, M::Head, E::Head>) -> Result<(), AllocError>
         ensures { InEveryHistory N.Family.meaning M.Family.meaning E.Family.meaning self.old.bench (λ f st a. WentOn f st (message_changed texts (card_calls a)) result self.new.bench) }
     {
-        let message = placed(Head::Message(texts.message.head), texts.message.text);
+        let message = Record {
+            head: Head::Message(texts.message.head),
+            text: texts.message.text,
+        };
         self.store_one(Place::Message, message)?;
-        let changed = placed(Head::Message(texts.changed.head), texts.changed.text);
+        let changed = Record {
+            head: Head::Message(texts.changed.head),
+            text: texts.changed.text,
+        };
         self.store_one(Place::Message, changed)
     }
 
@@ -92,8 +107,10 @@ impl<N: Family, M: Family, E: Family> Exercise<N, M, E> {
         let fade = self.fading.next_fade();
         match self.bench.pass(fade) {
             Ok(passage) => {
-                self.note(passage, passage.first)?;
-                self.note(passage, passage.second)
+                for answer in [passage.first, passage.second] {
+                    self.note(passage.pdu, answer)?;
+                }
+                Ok(())
             }
             // A draw into ten bytes is not refused.
             Err(_) => Ok(()),
@@ -101,18 +118,14 @@ impl<N: Family, M: Family, E: Family> Exercise<N, M, E> {
     }
 
     // Tells a refusal, or a text that is newly shown.
-    fn note(
-        &mut self,
-        passage: Passage,
-        answer: Option<Result<Option<Answer>, Refusal>>,
-    ) -> Result<(), AllocError>
+    fn note(&mut self, pdu: Pdu, answer: CopyAnswer) -> Result<(), AllocError>
         ensures { self.new.bench ≡ self.old.bench }
     {
         let drawn = self.bench.tally().drawn;
         match answer {
             Some(Err(refusal)) => self.log.push(Entry::Refused { drawn, refusal })?,
             Some(Ok(Some(Answer::NewlyShown))) => {
-                if let Some(entry) = self.shown(passage, drawn) {
+                if let Some(entry) = self.shown(pdu, drawn) {
                     self.log.push(entry)?;
                 }
             }
@@ -122,18 +135,12 @@ impl<N: Family, M: Family, E: Family> Exercise<N, M, E> {
     }
 
     // The text shown at the place of the PDU's frame.
-    fn shown(&self, passage: Passage, drawn: u32) -> Option<Entry> {
-        let contents = Contents::try_from(passage.pdu).ok()?;
+    fn shown(&self, pdu: Pdu, drawn: u32) -> Option<Entry> {
+        let contents = Contents::try_from(pdu).ok()?;
         let Message::Frame(place, _) = contents.first else {
             return None;
         };
         let text = shown_text(self.bench.monitor(), place)?;
         Some(Entry::Shown { drawn, place, text })
     }
-}
-
-fn placed<H: Copy>(head: H, text: Text) -> Record<H>
-    ensures { result ≡ record { head = head; text = text } }
-{
-    Record { head, text }
 }
