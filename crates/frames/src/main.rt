@@ -18,8 +18,8 @@ use pdu::refusal::Refusal;
 use station_message::message::{MessageHead, StationMessage};
 use std::env;
 
-// The check of alerts divides by X^7 plus this.
-const GENERATOR: u8 = 9;
+// Alerts whose check divides by X^7 + X^3 + 1.
+const ALERTS: Alert = Alert { generator: 9 };
 
 const USAGE: &str = "usage: frames name SEQUENCE TEXT
        frames message SEQUENCE PRIORITY ENCODING TEXT
@@ -39,28 +39,22 @@ fn run(rt: &HostRuntime) -> anyhow::Result<()> {
             Ok(())
         }
         [kind, sequence, text] if kind.as_str() == "name" => {
-            print_name(rt, sequence.as_str(), text.as_str())
+            print_cut(rt, &Name, Place::Name, (), CutWords { sequence, text })
         }
         [kind, sequence, priority, encoding, text] if kind.as_str() == "message" => {
             let head = MessageHead {
                 priority: number_in(priority.as_str(), "priority")?,
                 encoding: number_in(encoding.as_str(), "encoding")?,
             };
-            print_cut(
-                rt,
-                &StationMessage,
-                Place::Message,
-                head,
-                sequence.as_str(),
-                text.as_str(),
-            )
+            let cut = CutWords { sequence, text };
+            print_cut(rt, &StationMessage, Place::Message, head, cut)
         }
         [kind, sequence, encoding, control, text] if kind.as_str() == "alert" => {
             let head = AlertHead {
                 encoding: number_in(encoding.as_str(), "encoding")?,
                 control_length: number_in(control.as_str(), "control length")?,
             };
-            print_alert(rt, head, sequence.as_str(), text.as_str())
+            print_cut(rt, &ALERTS, Place::Alert, head, CutWords { sequence, text })
         }
         _ => {
             eprintln!(rt; "{USAGE}")?;
@@ -69,20 +63,11 @@ fn run(rt: &HostRuntime) -> anyhow::Result<()> {
     }
 }
 
-fn print_name(rt: &HostRuntime, sequence: &str, text: &str) -> anyhow::Result<()> {
-    print_cut(rt, &Name, Place::Name, (), sequence, text)
-}
-
-fn print_alert(
-    rt: &HostRuntime,
-    head: AlertHead,
-    sequence: &str,
-    text: &str,
-) -> anyhow::Result<()> {
-    let Ok(alerts) = Alert::new(GENERATOR) else {
-        bail!("the alert generator is not allowed");
-    };
-    print_cut(rt, &alerts, Place::Alert, head, sequence, text)
+// The words that every kind of text has.
+#[derive(Clone, Copy)]
+struct CutWords<'a> {
+    sequence: &'a String,
+    text: &'a String,
 }
 
 // Prints the cut of a record.
@@ -91,11 +76,10 @@ fn print_cut<F: Family>(
     family: &F,
     place: Place,
     head: F::Head,
-    sequence: &str,
-    text: &str,
+    words: CutWords,
 ) -> anyhow::Result<()> {
-    let sequence = number_in(sequence, "sequence number")?;
-    let bytes = bytes_in(rt.alloc(), text)?;
+    let sequence = number_in(words.sequence.as_str(), "sequence number")?;
+    let bytes = bytes_in(rt.alloc(), words.text.as_str())?;
     let text = accepted(rt, Text::new(bytes.as_slice()))?;
     let record = Record { head, text };
     let count = accepted(rt, family.frame_count(&record))?;
