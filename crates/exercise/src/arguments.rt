@@ -1,5 +1,5 @@
 // The texts and the seed, from the words of the command line.
-use crate::texts::texts_of;
+use crate::texts::{TextWords, texts_of};
 use alert::alert::AlertHead;
 use anyhow::bail;
 use course::exercise::Texts;
@@ -12,13 +12,13 @@ pub(crate) struct Arguments {
     pub texts: Texts<(), MessageHead, AlertHead>,
 }
 
-// The texts of a run with no texts of its own.
-const OWN_TEXTS: [&str; 4] = [
-    "Dolmughia Bench Radio",
-    "Welcome to the bench course.",
-    "The bench course goes on until four.",
-    "Test alert: this is only an exercise.",
-];
+// The texts of a run that is given none.
+const DEFAULT_TEXTS: TextWords<'static> = TextWords {
+    name: "Dolmughia Bench Radio",
+    message: "Welcome to the bench course.",
+    changed: "The bench course goes on until four.",
+    alert: "Test alert: this is only an exercise.",
+};
 
 pub(crate) fn arguments_in(heap: Global, words: &[String]) -> anyhow::Result<Arguments> {
     // Four words are four texts, whatever the first one is.
@@ -29,13 +29,13 @@ pub(crate) fn arguments_in(heap: Global, words: &[String]) -> anyhow::Result<Arg
         _ => (None, words),
     };
     let texts = match words {
-        [] => OWN_TEXTS,
-        [name, message, changed, alert] => [
-            name.as_str(),
-            message.as_str(),
-            changed.as_str(),
-            alert.as_str(),
-        ],
+        [] => DEFAULT_TEXTS,
+        [name, message, changed, alert] => TextWords {
+            name: name.as_str(),
+            message: message.as_str(),
+            changed: changed.as_str(),
+            alert: alert.as_str(),
+        },
         _ => bail!("there are four texts, or none"),
     };
     let texts = texts_of(heap, texts)?;
@@ -46,6 +46,7 @@ pub(crate) fn arguments_in(heap: Global, words: &[String]) -> anyhow::Result<Arg
     Ok(Arguments { seed, texts })
 }
 
+// A number like those of the program frames, but of another type and in other words.
 fn seed_in(word: &str) -> anyhow::Result<u32> {
     let Ok(seed) = word.parse::<u32>() else {
         bail!("the seed '{word}' is no number up to 4294967295");

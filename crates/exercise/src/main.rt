@@ -23,8 +23,8 @@ use std::alloc::Global;
 use std::env;
 use texts::longest_cut;
 
-// The check of alerts divides by X^7 plus this.
-const GENERATOR: u8 = 9;
+// Alerts whose check divides by X^7 + X^3 + 1.
+const ALERTS: Alert = Alert { generator: 9 };
 
 // How often each frame is drawn in each half, at the least.
 const ROUNDS: u32 = 8;
@@ -67,13 +67,10 @@ fn exercised(
     heap: Global,
     arguments: Arguments,
 ) -> anyhow::Result<Exercise<Name, StationMessage, Alert>> {
-    let Ok(alerts) = Alert::new(GENERATOR) else {
-        bail!("the alert generator is not allowed");
-    };
     let texts = arguments.texts;
     // One turn of four for each frame of the longest text.
-    let draws = longest_cut(alerts, texts)?.saturating_mul(4 * ROUNDS);
-    let Ok(bench) = Bench::open(station(), Name, StationMessage, alerts) else {
+    let draws = longest_cut(ALERTS, texts)?.saturating_mul(4 * ROUNDS);
+    let Ok(bench) = Bench::open(station(), Name, StationMessage, ALERTS) else {
         bail!("the station's fields are not allowed");
     };
     let mut exercise = Exercise {

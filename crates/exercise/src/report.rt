@@ -1,12 +1,13 @@
 // What a marker wants to see of a run, in order.
-use crate::words::{LineWords, PieceWords, PlaceName, quoted};
+use crate::words::{LineWords, PieceWords, PlaceName};
 use airing::stored::Stored;
 use alert::alert::Alert;
 use bench::bench::{Bench, Verdict};
 use course::exercise::{Entry, Exercise};
 use course::shown::shown_text;
-use display::line::{Line, Source, display_line};
-use display::piece::pieces;
+use display::line::display_line;
+use display::piece::{Part, Piece, pieces};
+use hexadecimal::printed::Quoted;
 use message::place::Place;
 use name::name::Name;
 use pdu::refusal::Refusal;
@@ -14,7 +15,7 @@ use station_message::message::StationMessage;
 use std::fmt;
 use transport::head::Head;
 
-// What the monitor refuses a PDU with, in the order of the tests.
+// The refusals of a PDU, in the order in which they are tested.
 const REFUSALS: [Refusal; 8] = [
     Refusal::NotTenBytes,
     Refusal::CheckDiffers,
@@ -66,7 +67,7 @@ impl Report<'_> {
                 continue;
             };
             let place = PlaceName(*place);
-            let quoted = quoted(text.as_slice());
+            let quoted = Quoted::<false>(text.as_slice());
             match answer {
                 Ok(Stored::Changed) => writeln!(f, "  {place} {quoted}: changed")?,
                 Ok(Stored::Unchanged) => writeln!(f, "  {place} {quoted}: unchanged")?,
@@ -122,7 +123,7 @@ impl Report<'_> {
         for entry in self.log {
             if let Entry::Shown { drawn, place, text } = entry {
                 let place = PlaceName(*place);
-                let quoted = quoted(text.as_slice());
+                let quoted = Quoted::<false>(text.as_slice());
                 writeln!(f, "  at PDU {drawn}: {place} {quoted}")?;
             }
         }
@@ -139,12 +140,11 @@ impl Report<'_> {
         };
         let Some(alert) = shown_text(monitor, Place::Alert) else {
             writeln!(f, "No alert is shown.")?;
-            let line = Line {
-                source: Source::Message,
+            let none = Piece::Text(Part {
                 place: 0,
-                bytes: message,
-            };
-            return writeln!(f, "{}", LineWords(line));
+                bytes: &[],
+            });
+            return writeln!(f, "{}", LineWords(display_line(none, message)));
         };
         let Ok(Head::Alert(head)) = monitor.shown_head(u8::from(Place::Alert)) else {
             return Ok(());

@@ -11,12 +11,21 @@ use std::alloc::Global;
 // Control data in front of an alert's text, in pairs of bytes.
 const CONTROL_LENGTH: u8 = 3;
 
-// The records of four texts: the name, the message, what it is changed to and the alert, which control data of zeros goes before.
+// The words of the four texts.
+#[derive(Clone, Copy)]
+pub(crate) struct TextWords<'a> {
+    pub name: &'a str,
+    pub message: &'a str,
+    // What the message is changed to.
+    pub changed: &'a str,
+    pub alert: &'a str,
+}
+
+// The records of four texts: the name, the message, what it is changed to and the alert, with control data of zeros before it.
 pub(crate) fn texts_of(
     heap: Global,
-    texts: [&str; 4],
+    words: TextWords,
 ) -> anyhow::Result<Texts<(), MessageHead, AlertHead>> {
-    let [name, message, changed, alert] = texts;
     let plain = MessageHead {
         priority: 0,
         encoding: 0,
@@ -26,12 +35,12 @@ pub(crate) fn texts_of(
         control_length: CONTROL_LENGTH,
     };
     let mut bytes = vec![in heap; 0; 2 * CONTROL_LENGTH as usize]?;
-    bytes.extend_from_slice(alert.as_bytes())?;
+    bytes.extend_from_slice(words.alert.as_bytes())?;
     Ok(Texts {
-        name: record_of("name", (), name.as_bytes())?,
-        message: record_of("message", plain, message.as_bytes())?,
+        name: record_of("name", (), words.name.as_bytes())?,
+        message: record_of("message", plain, words.message.as_bytes())?,
         alert: record_of("alert", head, bytes.as_slice())?,
-        changed: record_of("changed message", plain, changed.as_bytes())?,
+        changed: record_of("changed message", plain, words.changed.as_bytes())?,
     })
 }
 

@@ -31,7 +31,7 @@ impl fmt::Display for PieceWords<'_> {
             }
             Piece::Text(part) => {
                 let place = part.place;
-                let quoted = quoted(part.bytes);
+                let quoted = Quoted::<false>(part.bytes);
                 write!(f, "text from byte {place}: {quoted}")
             }
         }
@@ -43,17 +43,10 @@ pub(crate) struct LineWords<'a>(pub Line<'a>);
 
 impl fmt::Display for LineWords<'_> {
     fn fmt<W: fmt::Write>(&self, f: &mut fmt::Formatter<W>) -> fmt::Result {
-        let quoted = quoted(self.0.bytes);
+        let quoted = Quoted::<false>(self.0.bytes);
         match self.0.source {
             Source::Alert => write!(f, "Display line, from the alert: {quoted}"),
             Source::Message => write!(f, "Display line, from the message: {quoted}"),
         }
-    }
-}
-
-pub(crate) fn quoted(bytes: &[u8]) -> Quoted<'_> {
-    Quoted {
-        bytes,
-        escape_marks: false,
     }
 }
