@@ -11,49 +11,46 @@ use transport::families::Families;
 
 const LETTERS: [u8; 400] = [65; 400];
 
+// The number of frames, or the refusal's number.
+fn frames<F: Family>(family: &F, head: F::Head, bytes: &[u8]) -> Result<usize, u8> {
+    match count(family, head, bytes) {
+        Ok(count) => Ok(count),
+        Err(refusal) => Err(u8::from(refusal)),
+    }
+}
+
 fn count<F: Family>(family: &F, head: F::Head, bytes: &[u8]) -> Result<usize, Refusal> {
     let text = Text::new(bytes)?;
     family.frame_count(&Record { head, text })
 }
 
-// The number of frames, or 100 and the refusal's number.
-fn frames<F: Family>(family: &F, head: F::Head, bytes: &[u8]) -> usize {
-    match count(family, head, bytes) {
-        Ok(count) => count,
-        Err(refused) => usize::from(u8::from(refused)).saturating_add(100),
-    }
-}
-
-fn message(length: usize) -> usize {
+fn message(bytes: &[u8]) -> Result<usize, u8> {
     let head = MessageHead {
         priority: 0,
         encoding: 0,
     };
-    match LETTERS.get(0..length) {
-        Some(letters) => frames(&StationMessage, head, letters),
-        None => 0,
-    }
+    frames(&StationMessage, head, bytes)
 }
 
 #[test]
 fn frames_of_a_message(rt: HostRuntime) {
-    assert_eq!(rt; message(3), 119);
-    assert_eq!(rt; message(4), 1);
-    assert_eq!(rt; message(5), 2);
-    assert_eq!(rt; message(10), 2);
-    assert_eq!(rt; message(11), 3);
-    assert_eq!(rt; message(190), 32);
-    assert_eq!(rt; message(191), 119);
+    assert_eq!(rt; message(&LETTERS[0..3]), Err(19));
+    assert_eq!(rt; message(&LETTERS[0..4]), Ok(1));
+    assert_eq!(rt; message(&LETTERS[0..5]), Ok(2));
+    assert_eq!(rt; message(&LETTERS[0..10]), Ok(2));
+    assert_eq!(rt; message(&LETTERS[0..11]), Ok(3));
+    assert_eq!(rt; message(&LETTERS[0..190]), Ok(32));
+    assert_eq!(rt; message(&LETTERS[0..191]), Err(19));
 }
 
 #[test]
 fn frames_of_a_name(rt: HostRuntime) {
-    assert_eq!(rt; frames(&Name, (), &LETTERS[0..1]), 1);
-    assert_eq!(rt; frames(&Name, (), &LETTERS[0..7]), 1);
-    assert_eq!(rt; frames(&Name, (), &LETTERS[0..8]), 2);
-    assert_eq!(rt; frames(&Name, (), &LETTERS[0..56]), 8);
-    assert_eq!(rt; frames(&Name, (), &LETTERS[0..57]), 119);
-    assert_eq!(rt; frames(&Name, (), &[0x41, 0x80]), 120);
+    assert_eq!(rt; frames(&Name, (), &LETTERS[0..1]), Ok(1));
+    assert_eq!(rt; frames(&Name, (), &LETTERS[0..7]), Ok(1));
+    assert_eq!(rt; frames(&Name, (), &LETTERS[0..8]), Ok(2));
+    assert_eq!(rt; frames(&Name, (), &LETTERS[0..56]), Ok(8));
+    assert_eq!(rt; frames(&Name, (), &LETTERS[0..57]), Err(19));
+    assert_eq!(rt; frames(&Name, (), &[0x41, 0x80]), Err(20));
 }
 
 fn generator(generator: u8) -> u8 {
@@ -67,9 +64,9 @@ fn frames_of_an_alert(rt: HostRuntime) -> Result<(), Fail> {
         encoding: 4,
         control_length: 3,
     };
-    assert_eq!(rt; frames(&alerts, head, &LETTERS[0..7]), 2);
-    assert_eq!(rt; frames(&alerts, head, &LETTERS[0..381]), 64);
-    assert_eq!(rt; frames(&alerts, head, &LETTERS[0..382]), 119);
+    assert_eq!(rt; frames(&alerts, head, &LETTERS[0..7]), Ok(2));
+    assert_eq!(rt; frames(&alerts, head, &LETTERS[0..381]), Ok(64));
+    assert_eq!(rt; frames(&alerts, head, &LETTERS[0..382]), Err(19));
     assert_eq!(rt; generator(1), 0);
     assert_eq!(rt; generator(8), 23);
     assert_eq!(rt; generator(127), 0);

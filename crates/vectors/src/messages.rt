@@ -60,20 +60,20 @@ fn fields_that_are_refused(rt: HostRuntime) {
 }
 
 // The offset in minutes of a local time with these eleven bits.
-fn minutes(bits: u64) -> i16 {
+fn minutes(bits: u64) -> Option<i16> {
     match Message::parse(7, (3 << 16) + ((bits % 2048) << 5)) {
-        Ok(Message::Parameter(Parameter::Local(local))) => local.offset.0,
-        _ => i16::MAX,
+        Ok(Message::Parameter(Parameter::Local(local))) => Some(local.offset.0),
+        _ => None,
     }
 }
 
 #[test]
 fn offsets_of_time_zones(rt: HostRuntime) {
-    assert_eq!(rt; minutes(0b11100010000), -240);
-    assert_eq!(rt; minutes(0b11011010100), -300);
-    assert_eq!(rt; minutes(0b11000100000), -480);
-    assert_eq!(rt; minutes(0b01001011000), 600);
-    assert_eq!(rt; minutes(0b11100101110), -210);
-    assert_eq!(rt; minutes(1023), 1023);
-    assert_eq!(rt; minutes(1024), -1024);
+    assert_eq!(rt; minutes(0b11100010000), Some(-240));
+    assert_eq!(rt; minutes(0b11011010100), Some(-300));
+    assert_eq!(rt; minutes(0b11000100000), Some(-480));
+    assert_eq!(rt; minutes(0b01001011000), Some(600));
+    assert_eq!(rt; minutes(0b11100101110), Some(-210));
+    assert_eq!(rt; minutes(1023), Some(1023));
+    assert_eq!(rt; minutes(1024), Some(-1024));
 }

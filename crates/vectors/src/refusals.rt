@@ -1,7 +1,7 @@
-// Refusals as the vectors tell them.
+// The number of a refusal, for the tests.
 use pdu::refusal::Refusal;
 
-// The number of the refusal, or 0.
+// The number of the refusal, or 0. The numbers are what programs see; the tests pin them.
 pub(crate) fn number_of<T: Drop>(answer: Result<T, Refusal>) -> u8 {
     match answer {
         Ok(_) => 0,
