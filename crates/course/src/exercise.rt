@@ -9,12 +9,12 @@ use family::text::{Record, Text};
 use message::place::Place;
 use pdu::refusal::Refusal;
 
-// A bench with the fading box between its ends, and what was told of it so far.
+// A bench with the fading box between its ends, and what was told of it so far, all lent.
 #[derive(Drop)]
-pub struct Exercise<N: Family, M: Family, E: Family> {
-    pub bench: Bench<N, M, E>,
-    pub fading: FadingBox,
-    pub log: Vec<Entry>,
+pub struct Exercise<'a, N: Family, M: Family, E: Family> {
+    pub bench: &'a mut Bench<N, M, E>,
+    pub fading: &'a mut FadingBox,
+    pub log: &'a mut Vec<Entry>,
 }
 
 // The texts of the exercise, with heads of the three families.

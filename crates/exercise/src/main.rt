@@ -13,7 +13,7 @@ use anyhow::bail;
 use arguments::{Arguments, arguments_in};
 use bench::bench::Bench;
 use card::station::Station;
-use course::exercise::Exercise;
+use course::exercise::{Entry, Exercise};
 use fading::fade::FadingBox;
 use message::station::{CallSignExtension, Character, CountryCode, ShortName, StationId};
 use name::name::Name;
@@ -57,29 +57,34 @@ fn run(rt: &HostRuntime) -> anyhow::Result<()> {
 }
 
 fn perform(rt: &HostRuntime, arguments: Arguments) -> anyhow::Result<()> {
-    let exercise = exercised(rt.alloc(), arguments)?;
-    print!(rt; "{}", Report::of(&exercise))?;
+    let (bench, log) = exercised(rt.alloc(), arguments)?;
+    let report = Report {
+        bench: &bench,
+        log: log.as_slice(),
+    };
+    print!(rt; "{report}")?;
     Ok(())
 }
 
-// The exercise after its run.
+// The bench after the exercise, and what was told of it.
 fn exercised(
     heap: Global,
     arguments: Arguments,
-) -> anyhow::Result<Exercise<Name, StationMessage, Alert>> {
+) -> anyhow::Result<(Bench<Name, StationMessage, Alert>, Vec<Entry>)> {
     let texts = arguments.texts;
     // One turn of four for each frame of the longest text.
     let draws = longest_cut(ALERTS, texts)?.saturating_mul(4 * ROUNDS);
-    let Ok(bench) = Bench::open(station(), Name, StationMessage, ALERTS) else {
+    let Ok(mut bench) = Bench::open(station(), Name, StationMessage, ALERTS) else {
         bail!("the station's fields are not allowed");
     };
+    let mut log = Vec::new(heap);
     let mut exercise = Exercise {
-        bench,
-        fading: FadingBox::new(arguments.seed),
-        log: Vec::new(heap),
+        bench: &mut bench,
+        fading: &mut FadingBox::new(arguments.seed),
+        log: &mut log,
     };
     exercise.run(texts, draws)?;
-    Ok(exercise)
+    Ok((bench, log))
 }
 
 fn station() -> Station {

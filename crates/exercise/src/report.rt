@@ -3,7 +3,7 @@ use crate::words::{LineWords, PieceWords, PlaceName};
 use airing::stored::Stored;
 use alert::alert::Alert;
 use bench::bench::{Bench, Verdict};
-use course::exercise::{Entry, Exercise};
+use course::exercise::Entry;
 use course::shown::shown_text;
 use display::line::display_line;
 use display::piece::{Part, Piece, pieces};
@@ -29,17 +29,8 @@ const REFUSALS: [Refusal; 8] = [
 
 #[derive(Clone, Copy)]
 pub(crate) struct Report<'a> {
-    bench: &'a Bench<Name, StationMessage, Alert>,
-    log: &'a [Entry],
-}
-
-impl<'a> Report<'a> {
-    pub(crate) fn of(exercise: &'a Exercise<Name, StationMessage, Alert>) -> Report<'a> {
-        Report {
-            bench: &exercise.bench,
-            log: exercise.log.as_slice(),
-        }
-    }
+    pub bench: &'a Bench<Name, StationMessage, Alert>,
+    pub log: &'a [Entry],
 }
 
 impl fmt::Display for Report<'_> {

@@ -20,14 +20,15 @@ use pdu::pdu::Pdu;
 use std::alloc::AllocError;
 use transport::head::Head;
 
-impl<N: Family, M: Family, E: Family> Exercise<N, M, E> {
+impl<'a, N: Family, M: Family, E: Family> Exercise<'a, N, M, E> {
     // Runs the exercise, with so many draws in each half.
     pub fn run(
         &mut self,
         texts: Texts<N::Head, M::Head, E::Head>,
         draws: u32,
     ) -> Result<(), AllocError>
-        ensures { InEveryHistory N.Family.meaning M.Family.meaning E.Family.meaning self.old.bench (λ f st a. WentOn f st (exercise_calls texts draws (card_calls a)) result self.new.bench) }
+        ensures went_on { InEveryHistory N.Family.meaning M.Family.meaning E.Family.meaning self.old.bench.now (λ f st a. WentOn f st (exercise_calls texts draws (card_calls a)) result self.new.bench.now) }
+        ensures same_bench { self.new.bench.ghost_name ≡ self.old.bench.ghost_name }
     {
         self.store_texts(texts)?;
         self.pass_many(draws)?;
@@ -37,7 +38,8 @@ impl<N: Family, M: Family, E: Family> Exercise<N, M, E> {
 
     // Stores the name, the message and the alert.
     fn store_texts(&mut self, texts: Texts<N::Head, M::Head, E::Head>) -> Result<(), AllocError>
-        ensures { InEveryHistory N.Family.meaning M.Family.meaning E.Family.meaning self.old.bench (λ f st a. WentOn f st (texts_stored texts (card_calls a)) result self.new.bench) }
+        ensures went_on { InEveryHistory N.Family.meaning M.Family.meaning E.Family.meaning self.old.bench.now (λ f st a. WentOn f st (texts_stored texts (card_calls a)) result self.new.bench.now) }
+        ensures same_bench { self.new.bench.ghost_name ≡ self.old.bench.ghost_name }
     {
         let name = Record {
             head: Head::Name(texts.name.head),
@@ -58,7 +60,8 @@ impl<N: Family, M: Family, E: Family> Exercise<N, M, E> {
 
     // Stores the message again, as when the acknowledgement is lost, and then changes it.
     fn change_message(&mut self, texts: Texts<N::Head, M::Head, E::Head>) -> Result<(), AllocError>
-        ensures { InEveryHistory N.Family.meaning M.Family.meaning E.Family.meaning self.old.bench (λ f st a. WentOn f st (message_changed texts (card_calls a)) result self.new.bench) }
+        ensures went_on { InEveryHistory N.Family.meaning M.Family.meaning E.Family.meaning self.old.bench.now (λ f st a. WentOn f st (message_changed texts (card_calls a)) result self.new.bench.now) }
+        ensures same_bench { self.new.bench.ghost_name ≡ self.old.bench.ghost_name }
     {
         let message = Record {
             head: Head::Message(texts.message.head),
@@ -78,7 +81,8 @@ impl<N: Family, M: Family, E: Family> Exercise<N, M, E> {
         place: Place,
         record: Record<Head<N::Head, M::Head, E::Head>>,
     ) -> Result<(), AllocError>
-        ensures { InEveryHistory N.Family.meaning M.Family.meaning E.Family.meaning self.old.bench (λ f st a. WentOn f st (store (place_number place) (record_view «record») ∷ card_calls a) result self.new.bench) }
+        ensures went_on { InEveryHistory N.Family.meaning M.Family.meaning E.Family.meaning self.old.bench.now (λ f st a. WentOn f st (store (place_number place) (record_view «record») ∷ card_calls a) result self.new.bench.now) }
+        ensures same_bench { self.new.bench.ghost_name ≡ self.old.bench.ghost_name }
     {
         let text = record.text;
         let answer = self.bench.store(u8::from(place), record);
@@ -92,7 +96,8 @@ impl<N: Family, M: Family, E: Family> Exercise<N, M, E> {
 
     // Draws so many PDUs and sends each through the fading box.
     fn pass_many(&mut self, draws: u32) -> Result<(), AllocError>
-        ensures { InEveryHistory N.Family.meaning M.Family.meaning E.Family.meaning self.old.bench (λ f st a. WentOn f st (drawn_times draws (card_calls a)) result self.new.bench) }
+        ensures went_on { InEveryHistory N.Family.meaning M.Family.meaning E.Family.meaning self.old.bench.now (λ f st a. WentOn f st (drawn_times draws (card_calls a)) result self.new.bench.now) }
+        ensures same_bench { self.new.bench.ghost_name ≡ self.old.bench.ghost_name }
     {
         for _ in 0..draws {
             self.pass_one()?;
@@ -102,7 +107,8 @@ impl<N: Family, M: Family, E: Family> Exercise<N, M, E> {
 
     // Draws one PDU, sends it through the fading box, and tells what came of it.
     fn pass_one(&mut self) -> Result<(), AllocError>
-        ensures { InEveryHistory N.Family.meaning M.Family.meaning E.Family.meaning self.old.bench (λ f st a. WentOn f st (drawn_times 1 (card_calls a)) result self.new.bench) }
+        ensures went_on { InEveryHistory N.Family.meaning M.Family.meaning E.Family.meaning self.old.bench.now (λ f st a. WentOn f st (drawn_times 1 (card_calls a)) result self.new.bench.now) }
+        ensures same_bench { self.new.bench.ghost_name ≡ self.old.bench.ghost_name }
     {
         let fade = self.fading.next_fade();
         match self.bench.pass(fade) {
@@ -119,7 +125,8 @@ impl<N: Family, M: Family, E: Family> Exercise<N, M, E> {
 
     // Tells a refusal, or a text that is newly shown.
     fn note(&mut self, pdu: Pdu, answer: CopyAnswer) -> Result<(), AllocError>
-        ensures { self.new.bench ≡ self.old.bench }
+        ensures unchanged { self.new.bench.now ≡ self.old.bench.now }
+        ensures same_bench { self.new.bench.ghost_name ≡ self.old.bench.ghost_name }
     {
         let drawn = self.bench.tally().drawn;
         match answer {

@@ -6,5 +6,7 @@ use Rattle.course.specs.Exercise.{drawn_times}
 use Rattle.course.proofs.exercise.Exercise.pass_many.Given as goal
 
 abbrev pub invariant-loop : goal.invariant-loop
-invariant-loop g l =
-    InEveryHistory g.N.Family.meaning g.M.Family.meaning g.E.Family.meaning l.initial.self.bench (λ f st a. (b : List (Step (Head g.row.N-Head.Denot g.row.M-Head.Denot g.row.E-Head.Denot))) × Ran f st b l.self.bench × (card_calls b ≡ drawn_times l.counter (card_calls a)))
+invariant-loop g l = record {
+  went_on : InEveryHistory g.N.Family.meaning g.M.Family.meaning g.E.Family.meaning l.initial.self.bench.now (λ f st a. (b : List (Step (Head g.row.N-Head.Denot g.row.M-Head.Denot g.row.E-Head.Denot))) × Ran f st b l.self.bench.now × (card_calls b ≡ drawn_times l.counter (card_calls a)));
+  same_bench : l.self.bench.ghost_name ≡ l.initial.self.bench.ghost_name;
+}
