@@ -13,7 +13,7 @@ pub record LineOf : Type 0 where
 
 -- What a line stands for.
 abbrev pub line_view : Line → LineOf
-line_view l = record { source = l.source; place = l.place; bytes = l.bytes.now }
+line_view l = record { source = l.source; place = l.part.place; bytes = l.part.bytes.now }
 
 -- A message is shown from its begin.
 abbrev pub message_line : List ℕ → LineOf

@@ -3,7 +3,7 @@ ghost use Rattle.std.specs.Prelude.{◌≡◌};
 ghost use Rattle.display.specs.Pieces.{piece_view};
 ghost use Rattle.display.specs.Lines.{line_view, line_due};
 
-use crate::piece::Piece;
+use crate::piece::{Part, Piece};
 
 // The buffer that a line is part of.
 #[derive(Clone, Copy, PartialEq, Eq, Debug)]
@@ -15,9 +15,8 @@ pub enum Source {
 #[derive(Clone, Copy, Debug)]
 pub struct Line<'a> {
     pub source: Source,
-    // Where the bytes begin in the source.
-    pub place: usize,
-    pub bytes: &'a [u8],
+    // The bytes, with the place where they begin in the source.
+    pub part: Part<'a>,
 }
 
 // The piece, if it is text and not empty, or else the message.
@@ -27,13 +26,14 @@ pub fn display_line<'a>(piece: Piece<'a>, message: &'a [u8]) -> Line<'a>
     match piece {
         Piece::Text(part) if !part.bytes.is_empty() => Line {
             source: Source::Alert,
-            place: part.place,
-            bytes: part.bytes,
+            part,
         },
         _ => Line {
             source: Source::Message,
-            place: 0,
-            bytes: message,
+            part: Part {
+                place: 0,
+                bytes: message,
+            },
         },
     }
 }

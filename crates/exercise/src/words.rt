@@ -43,7 +43,7 @@ pub(crate) struct LineWords<'a>(pub Line<'a>);
 
 impl fmt::Display for LineWords<'_> {
     fn fmt<W: fmt::Write>(&self, f: &mut fmt::Formatter<W>) -> fmt::Result {
-        let quoted = Quoted::<false>(self.0.bytes);
+        let quoted = Quoted::<false>(self.0.part.bytes);
         match self.0.source {
             Source::Alert => write!(f, "Display line, from the alert: {quoted}"),
             Source::Message => write!(f, "Display line, from the message: {quoted}"),
