@@ -39,14 +39,15 @@ fn run(rt: &HostRuntime) -> anyhow::Result<()> {
             Ok(())
         }
         [kind, sequence, text] if kind.as_str() == "name" => {
-            print_cut(rt, &Name, Place::Name, (), CutWords { sequence, text })
+            let cut = cut_words(sequence, text);
+            print_cut(rt, &Name, Place::Name, (), cut)
         }
         [kind, sequence, priority, encoding, text] if kind.as_str() == "message" => {
             let head = MessageHead {
                 priority: number_in(priority.as_str(), "priority")?,
                 encoding: number_in(encoding.as_str(), "encoding")?,
             };
-            let cut = CutWords { sequence, text };
+            let cut = cut_words(sequence, text);
             print_cut(rt, &StationMessage, Place::Message, head, cut)
         }
         [kind, sequence, encoding, control, text] if kind.as_str() == "alert" => {
@@ -54,7 +55,8 @@ fn run(rt: &HostRuntime) -> anyhow::Result<()> {
                 encoding: number_in(encoding.as_str(), "encoding")?,
                 control_length: number_in(control.as_str(), "control length")?,
             };
-            print_cut(rt, &ALERTS, Place::Alert, head, CutWords { sequence, text })
+            let cut = cut_words(sequence, text);
+            print_cut(rt, &ALERTS, Place::Alert, head, cut)
         }
         _ => {
             eprintln!(rt; "{USAGE}")?;
@@ -66,8 +68,15 @@ fn run(rt: &HostRuntime) -> anyhow::Result<()> {
 // The words that every kind of text has.
 #[derive(Clone, Copy)]
 struct CutWords<'a> {
-    sequence: &'a String,
-    text: &'a String,
+    sequence: &'a str,
+    text: &'a str,
+}
+
+fn cut_words<'a>(sequence: &'a String, text: &'a String) -> CutWords<'a> {
+    CutWords {
+        sequence: sequence.as_str(),
+        text: text.as_str(),
+    }
 }
 
 // Prints the cut of a record.
@@ -78,8 +87,8 @@ fn print_cut<F: Family>(
     head: F::Head,
     words: CutWords,
 ) -> anyhow::Result<()> {
-    let sequence = number_in(words.sequence.as_str(), "sequence number")?;
-    let bytes = bytes_in(rt.alloc(), words.text.as_str())?;
+    let sequence = number_in(words.sequence, "sequence number")?;
+    let bytes = bytes_in(rt.alloc(), words.text)?;
     let text = accepted(rt, Text::new(bytes.as_slice()))?;
     let record = Record { head, text };
     let count = accepted(rt, family.frame_count(&record))?;
