@@ -1,5 +1,5 @@
 -- A family whose frames are fields around the bytes of the text.
-use Rattle.std.specs.Prelude.{ℕ, Bool, true, false, cond, ◌&&◌, List, Some, None, Option, slice_index}
+use Rattle.std.specs.Prelude.{ℕ, Bool, true, false, cond, ◌&&◌, List, [], ◌∷◌, Some, None, Option, ◌==◌, slice_index}
 use Rattle.std.specs.Str.{bytes_eq}
 use Rattle.pdu.specs.declared.refusal.Refusal.{Refusal}
 use Rattle.family.specs.Meaning.{RecordOf, Meaning}
@@ -29,6 +29,19 @@ record_cut l s r q = cut_of l.frame_layout (l.fields s r q) r.text
 -- The only record that the frames xs can be a cut of.
 abbrev pub record_in : {S T : Type 0} → FamilyLayout S T → S → List ℕ → RecordOf T
 record_in l s xs = record { head = l.head_of s (slice_index xs 0); text = text_in l.frame_layout xs (l.length_of s xs) }
+
+-- How many bytes of a text the frame x holds.
+abbrev pub count_held : {S T : Type 0} → FamilyLayout S T → S → ℕ → ℕ
+count_held l s x = cond (l.number s x == 0) l.frame_layout.first_bytes l.frame_layout.later_bytes
+
+-- The bytes of a text that the frame x holds: they are read as from a frame 0 that holds so many, alone.
+abbrev pub held_in : {S T : Type 0} → FamilyLayout S T → S → ℕ → List ℕ
+held_in l s x = text_in (record {
+  byte_bits = l.frame_layout.byte_bits;
+  trailing_bits = l.frame_layout.trailing_bits;
+  first_bytes = count_held l s x;
+  later_bytes = l.frame_layout.later_bytes;
+}) (x ∷ []) (count_held l s x)
 
 -- Whether there is no refusal.
 abbrev pub accepted : Option Refusal → Bool

@@ -3,15 +3,16 @@ ghost use Rattle.std.specs.Prelude.{◌≡◌, ◌<◌, ◌≤◌, None, if◌th
 ghost use Rattle.layout.specs.Frames.{text_in};
 ghost use Rattle.pdu.specs.declared.refusal.Refusal.TheVariants.{UnlawfulFrame};
 ghost use Rattle.family.specs.Texts.{bytes_of, record_view};
-ghost use Rattle.family.specs.Family.{meaning_of};
+ghost use Rattle.family.specs.Family.{meaning_of, held_in};
 ghost use Rattle.family.specs.Sound.{keeps};
 
 use crate::family::Family;
 use crate::family_layout::FamilyLayout;
+use crate::refusing::require;
 use crate::text::{Record, Text};
 use layout::cut::Cut;
 use layout::frames::frame_or_zero;
-use layout::layout::Payload;
+use layout::layout::{FrameLayout, Payload};
 use layout::text_frames::TextFrames;
 use pdu::refusal::Refusal;
 
@@ -23,6 +24,27 @@ fn text_in(frames: &TextFrames, length: usize) -> Text
     let mut bytes = [0; 381];
     frames.read_text(&mut bytes[0..length]);
     Text { bytes, len: length }
+}
+
+// The bytes of a text that one frame holds, with the zeros behind the text's end.
+pub fn bytes_held<L: FamilyLayout>(family: &L, frame: Payload) -> Text
+    ensures { bytes_of result ≡ held_in L.layout family.now frame }
+{
+    let layout = L::FRAME_LAYOUT;
+    let count = if family.number_in(frame) == 0 {
+        layout.first_bytes
+    } else {
+        layout.later_bytes
+    };
+    // Alone, and so as a frame 0 that holds so many.
+    let alone = TextFrames {
+        layout: FrameLayout {
+            first_bytes: count,
+            ..layout
+        },
+        frames: &[frame],
+    };
+    text_in(&alone, count)
 }
 
 // A lawful record, ready to be cut under a sequence number.
@@ -44,11 +66,7 @@ fn cut<'a, L: FamilyLayout>(family: &L, record: &'a Record<L::Head>, sequence: u
 fn require_lawful_frame<L: FamilyLayout>(family: &L, frame: Payload) -> Result<(), Refusal>
     ensures { result ≡ (if L.layout.lawful family.now frame then Ok (tt {0}) else Err UnlawfulFrame) }
 {
-    if family.accepts(frame) {
-        Ok(())
-    } else {
-        Err(Refusal::UnlawfulFrame)
-    }
+    require(family.accepts(frame), Refusal::UnlawfulFrame)
 }
 
 impl<L: FamilyLayout> Family for L {

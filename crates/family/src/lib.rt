@@ -4,5 +4,6 @@
 pub mod family;
 pub mod family_layout;
 pub mod laid_out;
+pub mod refusing;
 pub mod text;
 pub mod texts;

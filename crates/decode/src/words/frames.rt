@@ -1,10 +1,9 @@
 // A frame of a name, a message or an alert.
 use alert::alert::Alert;
-use family::family::Family;
+use family::family::{Family, Payload};
 use family::family_layout::FamilyLayout;
+use family::laid_out::bytes_held;
 use hexadecimal::printed::Quoted;
-use layout::layout::Payload;
-use layout::text_frames::TextFrames;
 use message::place::Place;
 use name::name::Name;
 use pdu::refusal::Refusal;
@@ -81,20 +80,8 @@ fn write_bytes<L: FamilyLayout, W: fmt::Write>(
     payload: Payload,
     f: &mut fmt::Formatter<W>,
 ) -> fmt::Result {
-    let layout = L::FRAME_LAYOUT;
-    // The frame as frame 0, and as frame 1, which is laid out as every later one.
-    let frames = TextFrames {
-        layout,
-        frames: &[payload, payload],
-    };
-    let mut bytes = [0; 14];
-    frames.read_text(&mut bytes);
-    let held = if family.number_in(payload) == 0 {
-        &bytes[0..layout.first_bytes]
-    } else {
-        &bytes[layout.first_bytes..layout.first_bytes + layout.later_bytes]
-    };
-    write!(f, ": {}", Quoted::<true>(held))
+    let held = bytes_held(family, payload);
+    write!(f, ": {}", Quoted::<true>(held.as_slice()))
 }
 
 // The numbers that a frame's family tells of it.
