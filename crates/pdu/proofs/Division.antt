@@ -1,5 +1,5 @@
 -- Long division gives the remainder, and there is no other.
-use Rattle.std.proofs.Common.{◌≡◌, ℕ, suc, ◌+◌, ◌-◌, ◌*◌, ◌/◌, ◌^◌, ◌<◌, ◌≤◌, cond, ltb, ◌⊎◌, List, [], ◌∷◌, length, sym, refl, ap, ◌∙◌, subst, ap₂, inl, inr, ⊎_elim, add-zero, one-mul, pow-suc, le-div_iff_mul-le, zero-mul, arith, pow_pos}
+use Rattle.std.proofs.Common.{min, ◌≡◌, ℕ, suc, ◌+◌, ◌-◌, ◌*◌, ◌/◌, ◌^◌, ◌<◌, ◌≤◌, cond, ltb, ◌⊎◌, List, [], ◌∷◌, length, sym, refl, ap, ◌∙◌, subst, ap₂, inl, inr, ⊎_elim, add-zero, one-mul, pow-suc, le-div_iff_mul-le, zero-mul, arith, pow_pos}
 use native.Mathlib.Nat.{div-eq_of_lt}
 use lib.Bits.{bit_xor, xor_block, xor_lt, xor_zero_r, xor_assoc, xor_comm, xor_self, xor_shr}
 use Rattle.std.proofs.lemmas.Bool.{cases_lt, cases_eq, lt-ltb, le-ltb}
@@ -25,7 +25,20 @@ top_lowered d g n h a b =
     let l = xor_lt d m g (omega arith) h in
     omega (arith, x, l)
 
-lowered_low : (d g n : ℕ) → g < 2 ^ d → n < 2 ^ d * 2 → lowered d (2 ^ d + g) n < 2 ^ d
+-- below 2 ^ d, n would get a top
+top_set : (d g n : ℕ) → g < 2 ^ d → n < 2 ^ d → 2 ^ d ≤ bit_xor n (2 ^ d + g)
+top_set d g n h l =
+    let e : n ≡ 0 * 2 ^ d + n = omega arith in
+    let f : 2 ^ d + g ≡ 1 * 2 ^ d + g = omega arith in
+    let x : bit_xor n (2 ^ d + g) ≡ bit_xor 0 1 * 2 ^ d + bit_xor n g = ap₂ bit_xor e f ∙ xor_block d 0 1 n g l h in
+    omega (arith, x)
+
+-- so the smaller of the two is n lowered
+pub smaller_lowered : (d g n : ℕ) → g < 2 ^ d → n < 2 ^ d * 2 → min n (bit_xor n (2 ^ d + g)) ≡ lowered d (2 ^ d + g) n
+smaller_lowered d g n h b =
+    ⊎_elim (λ (l : n < 2 ^ d). let k = top_set d g n h l in rw (lt-ltb n (2 ^ d) l) (omega (arith, k, l))) (λ (a : 2 ^ d ≤ n). let k = top_lowered d g n h a b in rw (le-ltb n (2 ^ d) a) (omega (arith, k, a))) (cases_lt n (2 ^ d))
+
+pub lowered_low : (d g n : ℕ) → g < 2 ^ d → n < 2 ^ d * 2 → lowered d (2 ^ d + g) n < 2 ^ d
 lowered_low d g n h b =
     ⊎_elim (λ (l : n < 2 ^ d). rw (lt-ltb n (2 ^ d) l) l) (λ (a : 2 ^ d ≤ n). rw (le-ltb n (2 ^ d) a) (top_lowered d g n h a b)) (cases_lt n (2 ^ d))
 

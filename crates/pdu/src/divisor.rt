@@ -19,13 +19,9 @@ impl Divisor {
         ensures value { result ≡ lowered self.degree (2 ^ self.degree + self.generator) (remainder * 2 + coefficient) }
         ensures small { result < 2 ^ self.degree }
     {
-        let top = 1 << self.degree;
         let longer = remainder * 2 + u16::from(coefficient);
-        if longer < top {
-            longer
-        } else {
-            longer ^ (top + self.generator)
-        }
+        // One of the two has no X^degree: it is the smaller one. No `if`: a jump costs more.
+        longer.min(longer ^ ((1 << self.degree) + self.generator))
     }
 
     // The remainder so far, followed by the bits of a byte.
