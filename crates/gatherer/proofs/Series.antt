@@ -29,7 +29,7 @@ module _ {S T : Type 0} (m : Meaning S T) (s : S) where
   under_none q y h n = let t : eqb (m.sequence s y) q ≡ false = ne_eqb _ _ n in rw t refl
 
   -- each frame of a series was accepted, and so is lawful
-  under_all : (q x : ℕ) (h : List Event) → LawfulFrames m s h → In x (frames_under m s q h) → m.lawful s x ≡ true
+  pub under_all : (q x : ℕ) (h : List Event) → LawfulFrames m s h → In x (frames_under m s q h) → m.lawful s x ≡ true
   under_all q x [] l i = absurd i
   under_all q x (forgotten ∷ h) l i = absurd i
   under_all q x (accepted y ∷ h) l i =
@@ -39,15 +39,16 @@ module _ {S T : Type 0} (m : Meaning S T) (s : S) where
         | inr n ↦ absurd (subst (In x) (under_none q y h n) i)
       ]
 
-  series_lawful : (x : ℕ) (h : List Event) → LawfulFrames m s h → In x (series m s h) → m.lawful s x ≡ true
+  pub series_lawful : (x : ℕ) (h : List Event) → LawfulFrames m s h → In x (series m s h) → m.lawful s x ≡ true
   series_lawful x [] l i = absurd i
   series_lawful x (forgotten ∷ h) l i = absurd i
   series_lawful x (accepted y ∷ h) l (inl e) = rw e l.0
   series_lawful x (accepted y ∷ h) l (inr i) = under_all (m.sequence s y) x h l.1 i
 
-  -- the latest frame 0 of a series tells the last number
-  pub last_told : (x : ℕ) (h : List Event) → LawfulFrames m s h → latest_frame m s 0 (series m s h) ≡ Some x → last_due m s x ≡ Ok (m.last s x)
-  last_told x h l e =
-      let is = latest_is 0 x (series m s h) e in
-      let n : eqb (m.number s x) 0 ≡ true = eq-eqb _ _ is.1 in
-      rw (series_lawful x h l is.0, n) refl
+  -- the last number is told by a frame 0
+  pub last_told : (x : ℕ) → m.lawful s x ≡ true → m.number s x ≡ 0 → last_due m s x ≡ Ok (m.last s x)
+  last_told x l n = let e : eqb (m.number s x) 0 ≡ true = eq-eqb _ _ n in rw (l, e) refl
+
+  -- and so by the latest frame 0 of a series
+  pub last_told_in : (x : ℕ) (h : List Event) → LawfulFrames m s h → latest_frame m s 0 (series m s h) ≡ Some x → last_due m s x ≡ Ok (m.last s x)
+  last_told_in x h l e = let is = latest_is 0 x (series m s h) e in last_told x (series_lawful x h l is.0) is.1
