@@ -10,6 +10,9 @@ use gatherer::gatherer::Gatherer;
 pub fn pass<F: Family>(card: &mut Place<F>, monitor: &mut Gatherer<F>) -> Option<Answer>
     ensures { InEveryHistory F.Family.meaning card.old monitor.old (λ s a. Passed F.Family.meaning s a result card.new monitor.new) }
 {
-    let frame = card.draw()?;
-    monitor.offer(frame).ok()
+    // Not `?`: an edit plants an answer where no frame was drawn.
+    match card.draw() {
+        Some(frame) => monitor.offer(frame).ok(),
+        None => None,
+    }
 }
